@@ -214,6 +214,7 @@ fn count_of(text: &str) -> Option<u32>
 }
 
 /// What is asked for by a text: a breakpoint of a function, or a watch.
+#[derive(Clone, Copy)]
 struct Named<'a> {
     name: &'a str,
     condition: Option<&'a str>,

@@ -28,7 +28,7 @@ use Rattle.adapter_requests.specs.declared.request.Page.{Page}
 use Rattle.adapter_requests.specs.declared.request.Request.TheVariants as request
 use Rattle.adapter_requests.specs.declared.request.LineBreakpoint.{LineBreakpoint}
 use Rattle.adapter_replies.specs.declared.places.Place.TheVariants as place
-use Rattle.adapter_replies.specs.Breakpoints.{breakpoint_of, is_part, told_breakpoint, watches_target}
+use Rattle.adapter_replies.specs.Breakpoints.{breakpoint_of, is_part, on_function, told_breakpoint, watches_target}
 use Rattle.adapter_replies.specs.Columns.{front, utf16_length}
 use Rattle.adapter_replies.specs.Completions.{command_names, completed, frame_or, name_length}
 use Rattle.adapter_replies.specs.Frames.{ToldFrame, all_frames, asked_frames, call_frame, call_told, calls_told, frame_name, standing_frame}
@@ -250,6 +250,15 @@ in_another_source s asked = refl
 
 on_a_condition : (s : Setting) → told_breakpoint s true on_two_lines (Err fault.Logging) ≡ Refused fault.Logging
 on_a_condition s = refl
+
+-- ---- functions
+
+-- a breakpoint on the first line of a function, and a name that is no function's
+on_its_line : on_function on_two_lines (Some 6) ≡ breakpoint_of on_two_lines (Some 6)
+on_its_line = refl
+
+no_function : on_function on_two_lines None ≡ Refused fault.NoFunction
+no_function = refl
 
 -- ---- watches
 

@@ -14,7 +14,9 @@ use Rattle.adapter_requests.specs.declared.reply.BreakpointFault.TheVariants as 
 use Rattle.adapter_requests.specs.declared.reply.Reply.{Reply}
 use Rattle.adapter_requests.specs.declared.reply.Reply.TheVariants as reply
 use Rattle.adapter_requests.specs.declared.request.DataBreakpoint.{DataBreakpoint}
+use Rattle.adapter_requests.specs.declared.request.FunctionBreakpoint.{FunctionBreakpoint}
 use Rattle.adapter_requests.specs.declared.request.LineBreakpoint.{LineBreakpoint}
+use Rattle.function_lines.specs.Lines.{function_line}
 
 -- a breakpoint or a watch by its number, and its line if it has one; without a number it is not there for this reason
 abbrev pub standing : Option ℕ → (line : Option ℕ) → BreakpointFault → Breakpoint
@@ -31,6 +33,16 @@ abbrev pub told_breakpoint : Setting → (is_program : Bool) → List (ℕ × St
 told_breakpoint s is_program stops (Err why) = Refused why
 told_breakpoint s false stops (Ok asked) = Refused fault.OtherSource
 told_breakpoint s true stops (Ok asked) = breakpoint_of stops (least_from asked.line (step_lines s.program))
+
+-- the breakpoint on the first line of a function; a name that is no function's has none
+abbrev pub on_function : List (ℕ × Stop) → (line : Option ℕ) → Breakpoint
+on_function stops None = Refused fault.NoFunction
+on_function stops (Some line) = standing (first_stop (on_line (Some line)) stops) (Some line) fault.Full
+
+-- the one that was asked for on a function
+abbrev pub told_function : Setting → List (ℕ × Stop) → Result FunctionBreakpoint BreakpointFault → Breakpoint
+told_function s stops (Err why) = Refused why
+told_function s stops (Ok asked) = on_function stops (function_line s.program asked.name.now)
 
 -- the same index, or none
 abbrev pub same_index : Option ℕ → Option ℕ → Bool

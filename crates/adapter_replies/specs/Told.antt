@@ -24,7 +24,7 @@ use Rattle.adapter_requests.specs.declared.request.Context.TheVariants.{Console}
 use Rattle.adapter_requests.specs.declared.request.Request.{Request}
 use Rattle.adapter_requests.specs.declared.request.Request.TheVariants as request
 use Rattle.adapter_replies.specs.Exceptions.{no_fault}
-use Rattle.adapter_replies.specs.Breakpoints.{IsWatchableTold, is_watchable, told_breakpoint, told_watch}
+use Rattle.adapter_replies.specs.Breakpoints.{IsWatchableTold, is_watchable, told_breakpoint, told_function, told_watch}
 use Rattle.adapter_replies.specs.Columns.{front}
 use Rattle.adapter_replies.specs.Completions.{ToldCompletion, completion_view, completions, frame_or}
 use Rattle.adapter_replies.specs.Console.{asked_in, help_text, parameters_text}
@@ -207,7 +207,6 @@ IsToldOf s d last other told = Unit {0}
 -- what a request is told that has the same reply always
 abbrev pub fixed_reply : Request → Option Reply
 fixed_reply request.Initialize = Some reply.Capabilities
-fixed_reply (request.SetFunctionBreakpoints functions) = Some reply.Done
 fixed_reply request.SetExceptionBreakpoints = Some reply.Done
 fixed_reply request.ConfigurationDone = Some reply.Done
 fixed_reply request.Terminate = Some reply.Done
@@ -237,6 +236,7 @@ told_locations other = None
 -- what a request for breakpoints or watches is told, each of them in order; and one for the lines on which there can be some, or to which the program can go
 abbrev pub AreBreakpointsTold : Setting → Debugger → (is_program : Bool) → List (ℕ × model.Stop) → Request → Reply → Type 0
 AreBreakpointsTold s d is_program stops (request.SetBreakpoints source lines) told = told_breakpoints told ≡ Some (map (told_breakpoint s is_program stops) lines.items)
+AreBreakpointsTold s d is_program stops (request.SetFunctionBreakpoints functions) told = told_breakpoints told ≡ Some (map (told_function s stops) functions.items)
 AreBreakpointsTold s d is_program stops (request.SetDataBreakpoints targets) told = told_breakpoints told ≡ Some (map (told_watch s d stops) targets.items)
 AreBreakpointsTold s d is_program stops (request.BreakpointLocations source first last) told = told_locations told ≡ Some (told_places s is_program first last)
 AreBreakpointsTold s d is_program stops (request.GotoTargets source line) told = told ≡ reply.Targets (goto_line s is_program line)

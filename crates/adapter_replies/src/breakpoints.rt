@@ -6,15 +6,19 @@ ghost use Rattle.gang_model.specs.Texts.CommandText.{command_of};
 ghost use Rattle.debug_answers.specs.Meanings.{AreStops, IsStop};
 ghost use Rattle.debug_commands.specs.Views.{target_view};
 ghost use Rattle.gang_model.specs.Source.Names.{same_text};
-ghost use Rattle.adapter_replies.specs.Breakpoints.{IsWatchableTold, breakpoint_of, can_watch, has_name, has_target, is_part, is_watchable, no_watch, same_index, standing, told_breakpoint, told_watch, watch_number, watches_target};
+ghost use Rattle.adapter_replies.specs.Breakpoints.{IsWatchableTold, breakpoint_of, can_watch, has_name, has_target, is_part, is_watchable, no_watch, on_function, same_index, standing, told_breakpoint, told_function, told_watch, watch_number, watches_target};
 
 use crate::parts::has_parts;
-use adapter_requests::{Breakpoint, BreakpointFault, DataBreakpoint, LineBreakpoint, Reply};
+use adapter_requests::{
+    Breakpoint, BreakpointFault, DataBreakpoint, FunctionBreakpoint, LineBreakpoint, Reply,
+};
 use debug_answers::{NumberedStop, Stop};
 use debug_commands::{Command, Target, read_command};
 use debug_session::breakpoint_on;
 use debug_traits::{RecordedMachine, Shown};
 use debug_words::is_same;
+use frame_expressions::ExpressionMachine;
+use function_lines::function_line;
 use std::alloc::{AllocError, Global};
 
 /// The breakpoints that were asked for on lines.
@@ -60,6 +64,55 @@ fn breakpoint_from<M: RecordedMachine>(machine: &M, stops: &[NumberedStop], line
 {
     match machine.line_from(line) {
         None => Breakpoint::Refused(BreakpointFault::NoStep),
+        Some(line) => standing(
+            breakpoint_on(line, stops),
+            Some(line),
+            BreakpointFault::Full,
+        ),
+    }
+}
+
+/// The breakpoints that were asked for on functions.
+pub(crate) fn functions<M: ExpressionMachine>(
+    alloc: Global,
+    machine: &M,
+    stops: &[NumberedStop],
+    functions: &[Result<FunctionBreakpoint<'_>, BreakpointFault>],
+) -> Result<Vec<Breakpoint>, AllocError>
+    ensures { (s : Setting) (d : Debugger) (meant : List (ℕ × model.Stop)) → M.stands machine.now s d → AreStops s stops.now meant
+        → IfOk result (λ made. made.items ≡ map (told_function s meant) functions.now) }
+{
+    let mut made = Vec::new(alloc);
+    for function in functions {
+        made.push(function_breakpoint(machine, stops, *function))?;
+    }
+    Ok(made)
+}
+
+/// The breakpoint that was asked for on a function: it stands on the first line of it.
+fn function_breakpoint<M: ExpressionMachine>(
+    machine: &M,
+    stops: &[NumberedStop],
+    asked: Result<FunctionBreakpoint<'_>, BreakpointFault>,
+) -> Breakpoint
+    ensures { (s : Setting) (d : Debugger) (meant : List (ℕ × model.Stop)) → M.stands machine.now s d → AreStops s stops.now meant
+        → result ≡ told_function s meant asked.entry }
+{
+    match asked {
+        Err(fault) => Breakpoint::Refused(fault),
+        Ok(asked) => {
+            let line = function_line(machine.program(), asked.name.as_bytes());
+            on_function(stops, line)
+        }
+    }
+}
+
+/// The breakpoint on the first line of a function, if there is one.
+fn on_function(stops: &[NumberedStop], line: Option<u32>) -> Breakpoint
+    ensures { (s : Setting) (meant : List (ℕ × model.Stop)) → AreStops s stops.now meant → result ≡ on_function meant line }
+{
+    match line {
+        None => Breakpoint::Refused(BreakpointFault::NoFunction),
         Some(line) => standing(
             breakpoint_on(line, stops),
             Some(line),
@@ -200,7 +253,7 @@ pub(crate) fn watchable<M: RecordedMachine>(
 }
 
 /// Whether a line watches something that can be watched.
-fn can_watch<M: RecordedMachine>(machine: &M, line: &[u8]) -> bool
+pub fn can_watch<M: RecordedMachine>(machine: &M, line: &[u8]) -> bool
     ensures { (s : Setting) (d : Debugger) → M.stands machine.now s d → result ≡ can_watch s d (command_of line.now) }
 {
     match read_command(line) {

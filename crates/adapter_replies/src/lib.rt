@@ -20,6 +20,7 @@ mod targets;
 mod texts;
 mod waiting;
 
+pub use breakpoints::can_watch;
 pub use exceptions::exception_reply;
 pub use expressions::no_value_text;
 pub use places::{depth_of, is_set_there};

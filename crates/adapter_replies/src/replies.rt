@@ -15,7 +15,7 @@ ghost use Rattle.adapter_replies.specs.declared.places.Place.TheVariants as plac
 ghost use Rattle.adapter_replies.specs.declared.places.Scope.TheVariants.{Arguments, Locals};
 ghost use Rattle.adapter_replies.specs.Told.{AreBreakpointsTold, AreCompletionsToldIn, AreFramesTold, AreScopesTold, AreThreadsTold, AreVariablesTold, IsAnswered, IsAnsweredIn, IsEvaluated, IsGotoTold, IsLineTold, IsLookedUp, IsMoveTold, IsSetTold, IsTextTold, IsToldOf, IsValueTold, MeansLast, fixed_reply, is_ended, is_expression, is_line, is_unnamed, refusal_text, shown_values, told_place, told_stop};
 
-use crate::breakpoints::{breakpoints, watchable, watches};
+use crate::breakpoints::{breakpoints, functions, watchable, watches};
 use crate::columns::front_of;
 use crate::completions::completions;
 use crate::exceptions::NO_FAULT;
@@ -29,9 +29,7 @@ use crate::scopes::variables;
 use crate::stops::{goto_reason, stop_of};
 use crate::targets::found;
 use crate::texts::{answer_text, value_text};
-use adapter_requests::{
-    Context, Filter, Page, Reply, Request, Scopes, Stop, StopReason, Thread,
-};
+use adapter_requests::{Context, Filter, Page, Reply, Request, Scopes, Stop, StopReason, Thread};
 use debug_answers::{Answer, NumberedStop, Refusal};
 use debug_commands::read_command;
 use debug_traits::{FramedMachine, RecordedMachine};
@@ -86,6 +84,9 @@ pub fn reply_to<M: ExpressionMachine>(
         Request::GotoTargets { source: _, line } => {
             Ok(Reply::Targets(goto_line(machine, is_program, *line)))
         }
+        Request::SetFunctionBreakpoints { functions: asked } => Ok(Reply::Breakpoints(functions(
+            alloc, machine, stops, asked,
+        )?)),
         Request::SetDataBreakpoints { targets } => {
             Ok(Reply::Breakpoints(watches(alloc, machine, stops, targets)?))
         }
@@ -128,7 +129,6 @@ pub fn reply_to<M: ExpressionMachine>(
         Request::Threads => threads(alloc),
         Request::Initialize => Ok(Reply::Capabilities),
         Request::SetExceptionBreakpoints
-        | Request::SetFunctionBreakpoints { .. }
         | Request::ConfigurationDone
         | Request::Terminate
         | Request::Disconnect => Ok(Reply::Done),

@@ -1,5 +1,5 @@
 -- What a request is told, once its commands are done.
-use Rattle.std.specs.Prelude.{◌≡◌, ◌⊎◌, ℕ, Bool, false, IfSome, Option, Some, None}
+use Rattle.std.specs.Prelude.{◌≡◌, ◌⊎◌, ℕ, Bool, false, IfSome, List, Option, Some, None}
 use Rattle.gang_model.specs.Debugger.Debugger as model
 use Rattle.gang_model.specs.Debugger.Debugger.{Debugger, DoBreak, Setting, depth, do_command, now}
 use Rattle.gang_model.specs.Texts.Text.{Bytes, text}
@@ -38,9 +38,9 @@ abbrev pub MayTell : Setting → (program : Bytes) → Debugger → Option Answe
 MayTell s program d last meant request told = (told ≡ reply.OutOfMemory) ⊎ Tells s program d last meant request told
 
 -- the lines of a request were done, and it is told what its last answer means where the session stands for a debugger after them
-pub record IsToldByLines {M : Type 0} (stands : M → Setting → Debugger → Type 0) (s : Setting) (program : Bytes) (request : Request) (d : Debugger) (told : Reply) (new : Session M) : Type 0 where
+pub record IsToldByLines {M : Type 0} (stands : M → Setting → Debugger → Type 0) (s : Setting) (program : Bytes) (functions : List ℕ) (request : Request) (d : Debugger) (told : Reply) (new : Session M) : Type 0 where
   pub last : Option Answer
-  pub does : DoesLines stands s (lines_of program (depth (now s d)) d.stops request) d last new
+  pub does : DoesLines stands s (lines_of s.program program functions (depth (now s d)) d.stops request) d last new
   pub after : Debugger
   pub there : StandsFor stands new s after
   pub meant : model.Answer
@@ -60,9 +60,9 @@ abbrev pub IsToldGoing : Setting → (program : Bytes) → Request → Debugger 
 IsToldGoing s program request d time told = IsToldAt s program request told (made_number (do_command s (DoBreak time.0) d).answer) (goto_reply s d time)
 
 -- what a request is told that goes to a time of a line, or whose lines were done
-abbrev pub IsToldBy : {M : Type 0} → (M → Setting → Debugger → Type 0) → Option (ℕ × Way) → Setting → (program : Bytes) → Request → Debugger → Reply → (new : Session M) → Type 0
-IsToldBy stands None s program request d told new = IsToldByLines stands s program request d told new
-IsToldBy stands (Some time) s program request d told new = IsToldGoing s program request d time told
+abbrev pub IsToldBy : {M : Type 0} → (M → Setting → Debugger → Type 0) → Option (ℕ × Way) → Setting → (program : Bytes) → (functions : List ℕ) → Request → Debugger → Reply → (new : Session M) → Type 0
+IsToldBy stands None s program functions request d told new = IsToldByLines stands s program functions request d told new
+IsToldBy stands (Some time) s program functions request d told new = IsToldGoing s program request d time told
 
-abbrev pub IsTold : {M : Type 0} → (M → Setting → Debugger → Type 0) → Setting → (program : Bytes) → Request → Debugger → Reply → (new : Session M) → Type 0
-IsTold stands s program request d told new = IsToldBy stands (goto_of request) s program request d told new
+abbrev pub IsTold : {M : Type 0} → (M → Setting → Debugger → Type 0) → Setting → (program : Bytes) → (functions : List ℕ) → Request → Debugger → Reply → (new : Session M) → Type 0
+IsTold stands s program functions request d told new = IsToldBy stands (goto_of request) s program functions request d told new

@@ -23,8 +23,10 @@ use Rattle.adapter_requests.specs.declared.request.Request.{Request}
 use Rattle.adapter_requests.specs.declared.request.Request.TheVariants as request
 use Rattle.adapter_session.specs.declared.answering.Answered.{Answered}
 use Rattle.adapter_session.specs.Answered.{IsTold, MayTell}
-use Rattle.adapter_session.specs.Requested.{commands_of, is_breakpoint, is_console, is_program, numbers_of}
-use Rattle.adapter_session.specs.Terms.{Terms, asked_terms, replaced}
+use Rattle.adapter_session.specs.Changes.{change_of}
+use Rattle.adapter_session.specs.Requested.{commands_of, is_console}
+use Rattle.adapter_session.specs.Restored.{numbers}
+use Rattle.adapter_session.specs.Terms.{Terms, changed_by}
 
 -- the most stops that are passed for one request
 abbrev pub most : ℕ
@@ -51,10 +53,9 @@ way_of other = None
 abbrev pub way_by : Terms → Request → Option Direction
 way_by terms request = if is_nothing terms.left then None else way_of request
 
--- the conditions, counts and messages after a request, where a debugger stands then
-abbrev pub terms_after : Setting → (program : Bytes) → Debugger → Request → Terms → Terms
-terms_after s program d (request.SetBreakpoints source lines) terms = replaced (is_program program source) (asked_terms s lines.items (numbers_of is_breakpoint d.stops)) terms
-terms_after s program d other terms = terms
+-- the conditions, counts and messages after a request, by the debuggers before and after it
+abbrev pub terms_after : Setting → (program : Bytes) → (before after : Debugger) → Request → Terms → Terms
+terms_after s program d e request terms = changed_by (change_of s program terms.functions d request) (numbers e.stops) terms
 
 -- what the condition came to of a stop that counts
 abbrev pub verdict_of : MoveEnd → Option Verdict
@@ -63,11 +64,11 @@ verdict_of ended = None
 
 -- the commands of a request were done, and nothing else
 pub record DoesPlainly {M : Type 0} (stands : M → Setting → Debugger → Type 0) (s : Setting) (program : Bytes) (request : Request) (d : Debugger) (terms : Terms) (answered : Answered) (session : Session M) (new : Terms) : Type 0 where
-  pub done : HasDone stands s (commands_of program s d request) d session
-  pub told : IsTold stands s program request d answered.reply session
+  pub done : HasDone stands s (commands_of program terms.functions s d request) d session
+  pub told : IsTold stands s program terms.functions request d answered.reply session
   pub verdict : answered.verdict ≡ None
   pub silent : written_of answered.written ≡ no_text
-  pub terms_are : (e : Debugger) → StandsFor stands session s e → new ≡ terms_after s program e request terms
+  pub terms_are : (e : Debugger) → StandsFor stands session s e → new ≡ terms_after s program d e request terms
 
 -- the session has gone on to a stop that counts, or to what else ended that, texts were written on the way, and the request is told that
 -- answer
@@ -76,6 +77,7 @@ pub record GoesToStop {M : Type 0} (stands : M → Setting → Debugger → Type
   pub goes : WritesOn stands s way most d terms.logs terms.left terms.log_left wrote session new.left new.log_left
   pub asked : new.asked ≡ terms.asked
   pub logs : new.logs ≡ terms.logs
+  pub functions : new.functions ≡ terms.functions
   pub written : answered.written ≡ wrote.written
   pub after : Debugger
   pub there : StandsFor stands session s after

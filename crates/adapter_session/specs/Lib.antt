@@ -1,5 +1,6 @@
 pub mod Answered
 pub mod Beginning
+pub mod Changes
 pub mod Doing
 pub mod Done
 pub mod Given

@@ -1,18 +1,24 @@
 -- The commands that a request is: each is a line of the debugger.
+use Rattle.std.specs.List.{list_any}
 use Rattle.std.specs.Prelude.{ℕ, Bool, true, false, not, List, [], ◌∷◌, ◌++◌, flat_map, map, Option, Some, None, Result, Ok, Err, codes, decimal, is_some, ◌&&◌, ◌==◌, if◌then◌else◌}
 use Rattle.gang_model.specs.Source.Names.{same_text}
 use Rattle.gang_model.specs.Debugger.Debugger.{Command, Debugger, Setting, Stop, Line, Watch, depth, now}
+use Rattle.gang_model.specs.Types.Tree.{Program}
 use Rattle.gang_model.specs.Texts.CommandText.{command_of}
 use Rattle.gang_model.specs.Texts.Text.{Bytes}
 use Rattle.adapter_requests.specs.declared.reply.BreakpointFault.{BreakpointFault}
 use Rattle.adapter_requests.specs.declared.request.Context.{Context}
 use Rattle.adapter_requests.specs.declared.request.Context.TheVariants.{Console}
 use Rattle.adapter_requests.specs.declared.request.DataBreakpoint.{DataBreakpoint}
+use Rattle.adapter_requests.specs.declared.request.FunctionBreakpoint.{FunctionBreakpoint}
 use Rattle.adapter_requests.specs.declared.request.LineBreakpoint.{LineBreakpoint}
 use Rattle.adapter_requests.specs.declared.request.Request.{Request}
 use Rattle.adapter_requests.specs.declared.request.Request.TheVariants as request
 use Rattle.adapter_requests.specs.declared.request.Way.{Way}
 use Rattle.adapter_replies.specs.References.{is_set_there, place_of}
+use Rattle.function_lines.specs.Lines.{function_line}
+use Rattle.adapter_session.specs.declared.lines.Kind.{Kind}
+use Rattle.adapter_session.specs.declared.lines.Kind.TheVariants.{Functions, Lines, Watches}
 use Rattle.adapter_session.specs.Going.{goto_commands, goto_of}
 use Rattle.std.specs.Borrow.{Bor}
 
@@ -26,10 +32,27 @@ abbrev pub is_watch : Stop → Bool
 is_watch (Line line) = false
 is_watch (Watch target v) = true
 
+-- whether a number is one of some
+abbrev pub is_in : (numbers : List ℕ) → ℕ → Bool
+is_in numbers number = list_any (λ n. n == number) numbers
+
+-- whether a stop is a breakpoint of a line, or of a function, where those of functions have these numbers
+abbrev pub is_of_line : (functions : List ℕ) → ℕ × Stop → Bool
+is_of_line functions entry = is_breakpoint entry.1 && not (is_in functions entry.0)
+
+abbrev pub is_of_function : (functions : List ℕ) → ℕ × Stop → Bool
+is_of_function functions entry = is_breakpoint entry.1 && is_in functions entry.0
+
+-- the test for a kind
+abbrev pub test_of : Kind → (functions : List ℕ) → ℕ × Stop → Bool
+test_of Lines functions entry = is_of_line functions entry
+test_of Functions functions entry = is_of_function functions entry
+test_of Watches functions entry = is_watch entry.1
+
 -- the numbers of the stops that pass a test
-abbrev pub numbers_of : (Stop → Bool) → List (ℕ × Stop) → List ℕ
+abbrev pub numbers_of : (ℕ × Stop → Bool) → List (ℕ × Stop) → List ℕ
 numbers_of test [] = []
-numbers_of test (entry ∷ stops) = if test entry.1 then entry.0 ∷ numbers_of test stops else numbers_of test stops
+numbers_of test (entry ∷ stops) = if test entry then entry.0 ∷ numbers_of test stops else numbers_of test stops
 
 -- the line that deletes a stop
 abbrev pub delete_line : ℕ → Bytes
@@ -89,29 +112,47 @@ abbrev pub line_for : {A : Type 0} → (A → Bytes) → Result A BreakpointFaul
 line_for line (Ok place) = only (line place)
 line_for line (Err fault) = []
 
--- the lines that put breakpoints on lines of a source, in place of those that there are; another source has none
-abbrev pub break_lines : (is_program : Bool) → List (ℕ × Stop) → List (Result LineBreakpoint BreakpointFault) → List Bytes
-break_lines false stops lines = []
-break_lines true stops lines = map delete_line (numbers_of is_breakpoint stops) ++ flat_map (line_for (λ asked. break_line asked.line)) lines
+-- the lines that delete the stops of a kind
+abbrev pub delete_lines : Kind → (functions : List ℕ) → List (ℕ × Stop) → List Bytes
+delete_lines kind functions stops = map delete_line (numbers_of (test_of kind functions) stops)
+
+-- the lines that put breakpoints on lines of a source, in place of those that lines have; another source has none
+abbrev pub break_lines : (is_program : Bool) → (functions : List ℕ) → List (ℕ × Stop) → List (Result LineBreakpoint BreakpointFault) → List Bytes
+break_lines false functions stops lines = []
+break_lines true functions stops lines = delete_lines Lines functions stops ++ flat_map (line_for (λ asked. break_line asked.line)) lines
+
+-- the line that makes a breakpoint of a function on its first line; none where no function has the name
+abbrev pub break_at : Option ℕ → List Bytes
+break_at None = []
+break_at (Some line) = only (break_line line)
+
+abbrev pub function_line_for : Program → Result FunctionBreakpoint BreakpointFault → List Bytes
+function_line_for p (Ok asked) = break_at (function_line p asked.name.now)
+function_line_for p (Err fault) = []
+
+-- the lines that put breakpoints on functions of a program, in place of those that functions have
+abbrev pub function_break_lines : Program → (functions : List ℕ) → List (ℕ × Stop) → List (Result FunctionBreakpoint BreakpointFault) → List Bytes
+function_break_lines p functions stops asked = delete_lines Functions functions stops ++ flat_map (function_line_for p) asked
 
 -- the lines that watch targets, in place of those that are watched
-abbrev pub watch_lines : List (ℕ × Stop) → List (Result DataBreakpoint BreakpointFault) → List Bytes
-watch_lines stops targets = map delete_line (numbers_of is_watch stops) ++ flat_map (line_for (λ asked. watch_line asked.target.now)) targets
+abbrev pub watch_lines : (functions : List ℕ) → List (ℕ × Stop) → List (Result DataBreakpoint BreakpointFault) → List Bytes
+watch_lines functions stops targets = delete_lines Watches functions stops ++ flat_map (line_for (λ asked. watch_line asked.target.now)) targets
 
--- the lines that a request is, given the program's path, its depth, and the breakpoints and watches
-abbrev pub lines_of : (program : Bytes) → (top : ℕ) → List (ℕ × Stop) → Request → List Bytes
-lines_of program top stops request.Next = only (codes "next")
-lines_of program top stops request.StepIn = only (codes "step")
-lines_of program top stops request.StepOut = only (codes "finish")
-lines_of program top stops request.Continue = only (codes "continue")
-lines_of program top stops request.StepBack = only (codes "reverse-step")
-lines_of program top stops request.ReverseContinue = only (codes "reverse-continue")
-lines_of program top stops (request.SetBreakpoints source lines) = break_lines (is_program program source) stops lines.items
-lines_of program top stops (request.SetDataBreakpoints targets) = watch_lines stops targets.items
-lines_of program top stops (request.SetVariable reference name value is_hexadecimal) = set_lines (is_set_there top (place_of reference)) name.now value.now
-lines_of program top stops (request.SetExpression expression value frame is_hexadecimal) = set_lines (not (is_elsewhere top frame)) expression.now value.now
-lines_of program top stops (request.Evaluate expression frame context is_hexadecimal) = evaluated (is_console context) (is_elsewhere top frame) expression.now
-lines_of program top stops other = []
+-- the lines that a request is, given a program, the path of its source, the numbers of the breakpoints of functions, its depth, and the breakpoints and watches
+abbrev pub lines_of : Program → (program : Bytes) → (functions : List ℕ) → (top : ℕ) → List (ℕ × Stop) → Request → List Bytes
+lines_of p program functions top stops request.Next = only (codes "next")
+lines_of p program functions top stops request.StepIn = only (codes "step")
+lines_of p program functions top stops request.StepOut = only (codes "finish")
+lines_of p program functions top stops request.Continue = only (codes "continue")
+lines_of p program functions top stops request.StepBack = only (codes "reverse-step")
+lines_of p program functions top stops request.ReverseContinue = only (codes "reverse-continue")
+lines_of p program functions top stops (request.SetBreakpoints source lines) = break_lines (is_program program source) functions stops lines.items
+lines_of p program functions top stops (request.SetFunctionBreakpoints asked) = function_break_lines p functions stops asked.items
+lines_of p program functions top stops (request.SetDataBreakpoints targets) = watch_lines functions stops targets.items
+lines_of p program functions top stops (request.SetVariable reference name value is_hexadecimal) = set_lines (is_set_there top (place_of reference)) name.now value.now
+lines_of p program functions top stops (request.SetExpression expression value frame is_hexadecimal) = set_lines (not (is_elsewhere top frame)) expression.now value.now
+lines_of p program functions top stops (request.Evaluate expression frame context is_hexadecimal) = evaluated (is_console context) (is_elsewhere top frame) expression.now
+lines_of p program functions top stops other = []
 
 -- the command of a line, where it spells one
 abbrev pub command_list : Option Command → List Command
@@ -128,5 +169,5 @@ commands_by None s d spelled = spelled
 commands_by (Some time) s d spelled = goto_commands s d time
 
 -- the commands that a request is where a debugger stands
-abbrev pub commands_of : (program : Bytes) → Setting → Debugger → Request → List Command
-commands_of program s d request = commands_by (goto_of request) s d (spelled (lines_of program (depth (now s d)) d.stops request))
+abbrev pub commands_of : (program : Bytes) → (functions : List ℕ) → Setting → Debugger → Request → List Command
+commands_of program functions s d request = commands_by (goto_of request) s d (spelled (lines_of s.program program functions (depth (now s d)) d.stops request))

@@ -1,34 +1,32 @@
--- The conditions and the counts of an editor's breakpoints, and the messages of those that write a text in place of stopping.
-use Rattle.std.specs.Prelude.{ℕ, Bool, List, [], ◌∷◌, map, drop, Option, Some, None, Result, Ok, Err, is_none, is_some, option_map, if◌then◌else◌}
+-- The conditions and the counts of an editor's breakpoints and watches, the messages of those that write a text in place of stopping, and which breakpoints
+-- are functions'.
+use Rattle.std.specs.Prelude.{ℕ, Bool, List, [], ◌∷◌, ◌++◌, drop, length, nat_lt, Option, Some, None, is_none, option_map, if◌then◌else◌}
 use Rattle.std.specs.Borrow.{Bor}
-use Rattle.gang_model.specs.Debugger.Debugger.{Setting, least_from, step_lines}
 use Rattle.gang_model.specs.Texts.Text.{Bytes}
-use Rattle.debug_answers.specs.declared.stops.NumberedStop.{NumberedStop}
-use Rattle.adapter_requests.specs.declared.reply.BreakpointFault.{BreakpointFault}
-use Rattle.adapter_requests.specs.declared.request.LineBreakpoint.{LineBreakpoint}
 use Rattle.conditional_stops.specs.Tables.{Table, condition_of, condition_refusal, count_refusal, nothing, passes_of, with_condition, with_passes}
 use Rattle.conditional_stops.specs.Views.{table_of}
 use Rattle.log_points.specs.Points.{Log, logs_of, message_of, silenced, with_log}
+use Rattle.adapter_session.specs.declared.lines.Kind.{Kind}
+use Rattle.adapter_session.specs.declared.lines.Kind.TheVariants.{Functions, Lines, Watches}
 use Rattle.adapter_session.specs.declared.terms.Terms.{Terms as GivenTerms}
+use Rattle.adapter_session.specs.Changes.{Asked, Change}
+use Rattle.adapter_session.specs.Requested.{is_in}
 
--- conditions and counts as they were asked for, and as the run has left them; and the breakpoints that write a text, with what the run
--- has left of theirs
+-- conditions and counts as they were asked for, and as the run has left them; the breakpoints that write a text, with what the run
+-- has left of theirs; and the numbers of the breakpoints of functions
 pub record Terms : Type 0 where
   pub asked : Table
   pub left : Table
   pub logs : List Log
   pub log_left : Table
+  pub functions : List ℕ
 
 abbrev pub terms_of : GivenTerms → Terms
-terms_of t = record { asked = table_of t.asked; left = table_of t.left; logs = logs_of t.logs; log_left = table_of t.logs.terms }
+terms_of t = record { asked = table_of t.asked; left = table_of t.left; logs = logs_of t.logs; log_left = table_of t.logs.terms; functions = t.functions.items }
 
 -- as they are asked for, of which no stop was passed yet: those that write a text stop nowhere
-abbrev pub anew : Table → List Log → Terms
-anew table logs = record { asked = table; left = silenced logs table; logs = logs; log_left = table }
-
--- the text of a condition that may be there
-abbrev pub text_of : Option (Bor Bytes) → Option Bytes
-text_of text = option_map (λ t. t.now) text
+abbrev pub anew : Table → List Log → (functions : List ℕ) → Terms
+anew table logs functions = record { asked = table; left = silenced logs table; logs = logs; log_left = table; functions = functions }
 
 -- a breakpoint has this condition, if it is one and there is room
 abbrev pub conditioned : ℕ → Option Bytes → Table → Table
@@ -44,25 +42,6 @@ abbrev pub first_given : List ℕ → (condition : Option Bytes) → (passes : �
 first_given [] condition passes table = table
 first_given (number ∷ numbers) condition passes table = counted number passes (conditioned number condition table)
 
--- whether a breakpoint can stand on a line or behind it
-abbrev pub can_stand : Setting → (line : ℕ) → Bool
-can_stand s line = is_some (least_from line (step_lines s.program))
-
--- the breakpoints that were asked for and can stand
-abbrev pub standing : Setting → List (Result LineBreakpoint BreakpointFault) → List LineBreakpoint
-standing s [] = []
-standing s (Err why ∷ entries) = standing s entries
-standing s (Ok asked ∷ entries) = if can_stand s asked.line then asked ∷ standing s entries else standing s entries
-
--- breakpoints that have these numbers, one after another, each with its condition and its count
-abbrev pub numbered : List LineBreakpoint → (numbers : List ℕ) → Table → Table
-numbered [] numbers table = table
-numbered (asked ∷ others) numbers table = numbered others (drop 1 numbers) (first_given numbers (text_of asked.condition) asked.passes table)
-
--- the table that is asked for, where the breakpoints have these numbers
-abbrev pub asked_table : Setting → List (Result LineBreakpoint BreakpointFault) → (numbers : List ℕ) → Table
-asked_table s entries numbers = numbered (standing s entries) numbers nothing
-
 -- a breakpoint writes a text, if it has a message
 abbrev pub messaged : ℕ → Option Bytes → List Log → List Log
 messaged number None logs = logs
@@ -73,22 +52,15 @@ abbrev pub first_logged : List ℕ → (message : Option Bytes) → List Log →
 first_logged [] message logs = logs
 first_logged (number ∷ numbers) message logs = messaged number message logs
 
--- breakpoints that have these numbers, one after another: each that has a message writes it
-abbrev pub logged : List LineBreakpoint → (numbers : List ℕ) → List Log → List Log
+-- stops that have these numbers, one after another, each with the condition and the count that are asked for it
+abbrev pub numbered : List Asked → (numbers : List ℕ) → Table → Table
+numbered [] numbers table = table
+numbered (asked ∷ others) numbers table = numbered others (drop 1 numbers) (first_given numbers asked.condition asked.passes table)
+
+-- the same, of those that have a message
+abbrev pub logged : List Asked → (numbers : List ℕ) → List Log → List Log
 logged [] numbers logs = logs
-logged (asked ∷ others) numbers logs = logged others (drop 1 numbers) (first_logged numbers (text_of asked.log) logs)
-
--- those that write a text, where the breakpoints have these numbers
-abbrev pub asked_logs : Setting → List (Result LineBreakpoint BreakpointFault) → (numbers : List ℕ) → List Log
-asked_logs s entries numbers = logged (standing s entries) numbers []
-
--- the conditions, counts and messages that are asked for
-abbrev pub asked_terms : Setting → List (Result LineBreakpoint BreakpointFault) → (numbers : List ℕ) → Terms
-asked_terms s entries numbers = anew (asked_table s entries numbers) (asked_logs s entries numbers)
-
--- the conditions and counts of the breakpoints of a source in place of those before, where it is the program's
-abbrev pub replaced : (is_program : Bool) → (asked old : Terms) → Terms
-replaced is_program asked old = if is_program then asked else old
+logged (asked ∷ others) numbers logs = logged others (drop 1 numbers) (first_logged numbers asked.log logs)
 
 -- ---- made anew
 
@@ -102,6 +74,56 @@ abbrev pub carried_logs : (asked : List Log) → (old new : List ℕ) → List L
 carried_logs asked [] new logs = logs
 carried_logs asked (number ∷ old) new logs = carried_logs asked old (drop 1 new) (first_logged new (message_of number asked) logs)
 
--- the numbers of breakpoints and watches
-abbrev pub all_numbers : List NumberedStop → List ℕ
-all_numbers stops = map (λ entry. entry.number) stops
+-- the numbers of functions' breakpoints, behind others, where there is room: 64 can be there
+abbrev pub with_number : (number : ℕ) → List ℕ → List ℕ
+with_number number numbers = if nat_lt (length numbers) 64 then numbers ++ number ∷ [] else numbers
+
+abbrev pub with_numbers : (numbers old : List ℕ) → List ℕ
+with_numbers [] old = old
+with_numbers (number ∷ numbers) old = with_numbers numbers (with_number number old)
+
+-- the first of some numbers, if there is one
+abbrev pub with_first : List ℕ → (old : List ℕ) → List ℕ
+with_first [] old = old
+with_first (number ∷ numbers) old = with_number number old
+
+-- a breakpoint that is made in place of a function's is a function's
+abbrev pub carried_functions : (functions : List ℕ) → (old new : List ℕ) → List ℕ → List ℕ
+carried_functions functions [] new made = made
+carried_functions functions (number ∷ old) new made = carried_functions functions old (drop 1 new) (if is_in functions number then with_first new made else made)
+
+-- ---- in place of others
+
+-- what there is for those that stand has stayed
+abbrev pub kept : (numbers : List ℕ) → Table → Table
+kept numbers table = carried table numbers numbers nothing
+
+abbrev pub kept_logs : (numbers : List ℕ) → List Log → List Log
+kept_logs numbers logs = carried_logs logs numbers numbers []
+
+-- and those that came have theirs
+abbrev pub given : (numbers came : List ℕ) → List Asked → Table → Table
+given numbers came asked table = numbered asked came (kept numbers table)
+
+abbrev pub given_logs : (numbers came : List ℕ) → List Asked → List Log → List Log
+given_logs numbers came asked logs = logged asked came (kept_logs numbers logs)
+
+-- the numbers of functions' breakpoints, where those of a kind came
+abbrev pub functions_after : Kind → (came old : List ℕ) → List ℕ
+functions_after Functions came old = with_numbers came []
+functions_after kind came old = old
+
+-- where stops of a kind came in place of others: all have these numbers then
+abbrev pub changed : Kind → (numbers came : List ℕ) → List Asked → Terms → Terms
+changed kind numbers came asked terms = record {
+  asked = given numbers came asked terms.asked;
+  left = silenced (given_logs numbers came asked terms.logs) (given numbers came asked terms.left);
+  logs = given_logs numbers came asked terms.logs;
+  log_left = given numbers came asked terms.log_left;
+  functions = functions_after kind came terms.functions;
+}
+
+-- those that came stand behind those that stayed
+abbrev pub changed_by : Option Change → (numbers : List ℕ) → Terms → Terms
+changed_by None numbers terms = terms
+changed_by (Some change) numbers terms = changed change.kind numbers (drop change.staying numbers) change.asked terms

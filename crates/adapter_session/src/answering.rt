@@ -1,26 +1,28 @@
 //! What a request does to a session, and what it is told.
-ghost use Rattle.std.specs.Prelude.{◌≡◌, IfErr, IfOk};
+ghost use Rattle.std.specs.Prelude.{◌≡◌, option_map, IfErr, IfOk};
 ghost use Rattle.gang_model.specs.Debugger.Debugger as model;
 ghost use Rattle.gang_model.specs.Debugger.Debugger.{Debugger, Setting, depth, now};
 ghost use Rattle.debug_session.specs.Sessions.{StandsFor};
 ghost use Rattle.command_lists.specs.Lists.{HasDone};
 ghost use Rattle.adapter_replies.specs.Told.{MeansLast};
 ghost use Rattle.adapter_session.specs.Answered.{IsTold, IsToldByLines, MayTell, is_source_of};
-ghost use Rattle.adapter_session.specs.Done.{DoesPlainly, DoesRequest, terms_after};
+ghost use Rattle.adapter_session.specs.Changes.{change_view};
+ghost use Rattle.adapter_session.specs.Given.{all_numbers};
+ghost use Rattle.adapter_session.specs.Done.{DoesPlainly, DoesRequest};
 ghost use Rattle.adapter_session.specs.Requested.{commands_of, lines_of, spelled};
-ghost use Rattle.adapter_session.specs.Terms.{terms_of};
+ghost use Rattle.adapter_session.specs.Terms.{changed_by, terms_of};
 
+use crate::changes::{Change, change_of};
 use crate::counting::{go_to_counted, way_by};
 use crate::doing::do_lines;
 use crate::going::{go_to, goto_of};
 use crate::lines::{command_lines, is_program};
 use crate::terms::Terms;
-use adapter_replies::{depth_of, reply_to};
+use adapter_replies::reply_to;
 use adapter_requests::{Reply, Request};
 use conditional_stops::Verdict;
-use debug_answers::Answer;
+use debug_answers::{Answer, NumberedStop};
 use debug_session::Session;
-use debug_traits::RecordedMachine;
 use frame_expressions::ExpressionMachine;
 use log_points::Written;
 use std::alloc::{AllocError, Global};
@@ -71,8 +73,9 @@ fn answer_plainly<M: ExpressionMachine>(
         → IfOk result (λ answered. DoesPlainly M.stands s program.now request.now d (terms_of terms.old) answered session.new (terms_of terms.new)) }
     ensures memory { IfErr result (λ _. (session.new ≡ session.old) × (terms.new ≡ terms.old)) }
 {
-    let reply = answer_commands(alloc, program, session, request)?;
-    change_terms(program, terms, session, request);
+    let change = change_of(alloc, program, terms.functions.as_slice(), session, request)?;
+    let reply = answer_commands(alloc, program, terms, session, request)?;
+    change_terms(terms, session.stops(), change);
     Ok(Answered {
         reply,
         verdict: None,
@@ -80,21 +83,12 @@ fn answer_plainly<M: ExpressionMachine>(
     })
 }
 
-/// Puts the conditions, the counts and the messages of a request in place of those that there are, where it has some.
-fn change_terms<M: RecordedMachine>(
-    program: &str,
-    terms: &mut Terms,
-    session: &Session<M>,
-    request: &Request<'_>,
-)
-    ensures { (s : Setting) (d : Debugger) → StandsFor M.stands session.now s d
-        → terms_of terms.new ≡ terms_after s program.now d request.now (terms_of terms.old) }
+/// Puts what a request asks for in place of what there was, where it changes that and these stops are there now.
+fn change_terms(terms: &mut Terms, stops: &[NumberedStop], change: Option<Change<'_>>)
+    ensures { terms_of terms.new ≡ changed_by (option_map change_view change) (all_numbers stops.now) (terms_of terms.old) }
 {
-    match request {
-        Request::SetBreakpoints { source, lines } => {
-            terms.replace(is_program(program, *source), session, lines);
-        }
-        _ => {}
+    if let Some(change) = change {
+        terms.change(stops, &change);
     }
 }
 
@@ -102,18 +96,19 @@ fn change_terms<M: RecordedMachine>(
 fn answer_commands<M: ExpressionMachine>(
     alloc: Global,
     program: &str,
+    terms: &Terms,
     session: &mut Session<M>,
     request: &Request<'_>,
 ) -> Result<Reply, AllocError>
     ensures done { (s : Setting) (d : Debugger) → StandsFor M.stands session.old s d
-        → IfOk result (λ _. HasDone M.stands s (commands_of program.now s d request.now) d session.new) }
+        → IfOk result (λ _. HasDone M.stands s (commands_of program.now (terms_of terms.now).functions s d request.now) d session.new) }
     ensures told { (s : Setting) (d : Debugger) → StandsFor M.stands session.old s d
-        → IfOk result (λ told. IsTold M.stands s program.now request.now d told session.new) }
+        → IfOk result (λ told. IsTold M.stands s program.now (terms_of terms.now).functions request.now d told session.new) }
     ensures memory { IfErr result (λ _. session.new ≡ session.old) }
 {
     match goto_of(request) {
         Some(time) => Ok(go_to(alloc, program, session, request, time)),
-        None => answer_lines(alloc, program, session, request),
+        None => answer_lines(alloc, program, terms, session, request),
     }
 }
 
@@ -121,17 +116,17 @@ fn answer_commands<M: ExpressionMachine>(
 fn answer_lines<M: ExpressionMachine>(
     alloc: Global,
     program: &str,
+    terms: &Terms,
     session: &mut Session<M>,
     request: &Request<'_>,
 ) -> Result<Reply, AllocError>
     ensures done { (s : Setting) (d : Debugger) → StandsFor M.stands session.old s d
-        → IfOk result (λ _. HasDone M.stands s (spelled (lines_of program.now (depth (now s d)) d.stops request.now)) d session.new) }
+        → IfOk result (λ _. HasDone M.stands s (spelled (lines_of s.program program.now (terms_of terms.now).functions (depth (now s d)) d.stops request.now)) d session.new) }
     ensures told { (s : Setting) (d : Debugger) → StandsFor M.stands session.old s d
-        → IfOk result (λ told. IsToldByLines M.stands s program.now request.now d told session.new) }
+        → IfOk result (λ told. IsToldByLines M.stands s program.now (terms_of terms.now).functions request.now d told session.new) }
     ensures memory { IfErr result (λ _. session.new ≡ session.old) }
 {
-    let depth = depth_of(session.machine());
-    let lines = command_lines(alloc, program, depth, request, session.stops())?;
+    let lines = command_lines(alloc, program, terms, session, request)?;
     let last = do_lines(session, lines.as_slice());
     Ok(told(alloc, program, session, request, last))
 }

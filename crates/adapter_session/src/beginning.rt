@@ -35,6 +35,7 @@ pub fn stop_at_beginning<M: ExpressionMachine>(
     ensures writes { (s : Setting) (d : Debugger) → StandsFor M.stands session.now s d
         → WritesHere s d (terms_of terms.old).logs (terms_of terms.old).log_left no_text (terms_of terms.new).log_left (written_of result.written) }
     ensures asked { (terms_of terms.new).asked ≡ (terms_of terms.old).asked }
+    ensures functions { (terms_of terms.new).functions ≡ (terms_of terms.old).functions }
     ensures logs { (terms_of terms.new).logs ≡ (terms_of terms.old).logs }
 {
     let first = ask_breakpoints(alloc, &mut terms.left, session);

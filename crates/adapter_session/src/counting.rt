@@ -87,6 +87,7 @@ pub(crate) fn go_to_counted<M: ExpressionMachine>(
         asked: _,
         left,
         logs,
+        functions: _,
     } = terms;
     let wrote = continue_writing(alloc, way, MOST, logs, left, session);
     let answer = wrote.moved.end.answer();

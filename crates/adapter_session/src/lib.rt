@@ -3,6 +3,7 @@
 
 mod answering;
 mod beginning;
+mod changes;
 mod counting;
 mod doing;
 mod going;

@@ -1,42 +1,91 @@
 //! The command lines that a request is.
 ghost use Rattle.std.specs.Prelude.{◌≡◌, ℕ, List, ◌++◌, flat_map, map, string_bytes, IfOk};
 ghost use Rattle.gang_model.specs.Debugger.Debugger as model;
-ghost use Rattle.gang_model.specs.Debugger.Debugger.{Setting};
+ghost use Rattle.gang_model.specs.Debugger.Debugger.{Debugger, Setting, depth, now};
 ghost use Rattle.debug_answers.specs.Meanings.{AreStops};
-ghost use Rattle.adapter_session.specs.Given.{given_numbers, is_of};
-ghost use Rattle.adapter_session.specs.Requested.{break_line, delete_line, evaluated, is_console, is_elsewhere, is_program, line_for, lines_of, only, set_lines, watch_line};
+ghost use Rattle.debug_session.specs.Sessions.{StandsFor};
+ghost use Rattle.typed_tree.specs.Views.{program_view};
+ghost use Rattle.adapter_session.specs.Given.{given_numbers, is_of, is_on_line};
+ghost use Rattle.adapter_session.specs.Requested.{break_at, break_line, delete_line, evaluated, function_line_for, is_console, is_elsewhere, is_in, is_program, line_for, lines_of, only, set_lines, watch_line};
+ghost use Rattle.adapter_session.specs.Terms.{terms_of};
 
-use adapter_replies::is_set_there;
-use adapter_requests::{BreakpointFault, Context, DataBreakpoint, LineBreakpoint, Request};
+use crate::terms::Terms;
+use adapter_replies::{depth_of, is_set_there};
+use adapter_requests::{
+    BreakpointFault, Context, DataBreakpoint, FunctionBreakpoint, LineBreakpoint, Request,
+};
 use debug_answers::{NumberedStop, Stop};
 use debug_commands::read_command;
+use debug_session::Session;
 use debug_words::is_same;
+use frame_expressions::ExpressionMachine;
+use function_lines::function_line;
 use std::alloc::{AllocError, Global};
+use typed_tree::Program;
 
-/// Breakpoints, or watches.
+/// Breakpoints of lines or of functions, or watches.
 #[derive(Clone, Copy, Debug)]
 pub(crate) enum Kind {
-    Breakpoints,
+    Lines,
+    Functions,
     Watches,
 }
 
-/// The command lines that a request is, where the program's source has this path and the program this depth, with these
-/// breakpoints and watches.
+/// What decides the lines of a request.
+#[derive(Clone, Copy)]
+struct Scene<'a> {
+    program: &'a Program,
+    /// The path of the program's source.
+    path: &'a str,
+    /// The numbers of the breakpoints of functions.
+    functions: &'a [u32],
+    depth: usize,
+    stops: &'a [NumberedStop],
+}
+
+/// The command lines that a request is, where the program's source has this path, with the breakpoints and watches of a session.
 ///
 /// # Errors
 ///
 /// Out of memory.
-#[tactic(auto, using(crate::proofs::StopNumbers::numbers_are))]
-pub fn command_lines(
+pub fn command_lines<M: ExpressionMachine>(
     alloc: Global,
-    program: &str,
-    depth: usize,
+    path: &str,
+    terms: &Terms,
+    session: &Session<M>,
     request: &Request<'_>,
-    stops: &[NumberedStop],
 ) -> Result<Vec<String>, AllocError>
-    ensures { IfOk result (λ lines. (s : Setting) (meant : List (ℕ × model.Stop)) → AreStops s stops.now meant
-        → map string_bytes lines.items ≡ lines_of program.now depth meant request.now) }
+    ensures { (s : Setting) (d : Debugger) → StandsFor M.stands session.now s d
+        → IfOk result (λ lines. map string_bytes lines.items ≡ lines_of s.program path.now (terms_of terms.now).functions (depth (now s d)) d.stops request.now) }
 {
+    let machine = session.machine();
+    let scene = Scene {
+        program: machine.program(),
+        path,
+        functions: terms.functions.as_slice(),
+        depth: depth_of(machine),
+        stops: session.stops(),
+    };
+    request_lines(alloc, scene, request)
+}
+
+/// The command lines that a request is.
+#[tactic(auto, using(crate::proofs::StopNumbers::numbers_are))]
+fn request_lines(
+    alloc: Global,
+    scene: Scene<'_>,
+    request: &Request<'_>,
+) -> Result<Vec<String>, AllocError>
+    ensures { IfOk result (λ lines. (s : Setting) (meant : List (ℕ × model.Stop)) → AreStops s scene.entry.stops.now meant
+        → map string_bytes lines.items ≡ lines_of (program_view scene.entry.program.now) scene.entry.path.now scene.entry.functions.now scene.entry.depth meant request.now) }
+{
+    let Scene {
+        program,
+        path,
+        functions,
+        depth,
+        stops,
+    } = scene;
     match request {
         Request::Next => alone(alloc, "next"),
         Request::StepIn => alone(alloc, "step"),
@@ -45,13 +94,16 @@ pub fn command_lines(
         Request::StepBack => alone(alloc, "reverse-step"),
         Request::ReverseContinue => alone(alloc, "reverse-continue"),
         Request::SetBreakpoints { source, lines } => {
-            if is_program(program, *source) {
-                break_lines(alloc, stops, lines)
+            if is_program(path, *source) {
+                break_lines(alloc, functions, stops, lines)
             } else {
                 Ok(Vec::new(alloc))
             }
         }
-        Request::SetDataBreakpoints { targets } => watch_lines(alloc, stops, targets),
+        Request::SetFunctionBreakpoints { functions: asked } => function_lines(
+            alloc, program, functions, stops, asked,
+        ),
+        Request::SetDataBreakpoints { targets } => { watch_lines(alloc, functions, stops, targets) }
         Request::SetVariable {
             reference,
             name,
@@ -77,7 +129,6 @@ pub fn command_lines(
         ),
         Request::Initialize
         | Request::Launch(_)
-        | Request::SetFunctionBreakpoints { .. }
         | Request::BreakpointLocations { .. }
         | Request::GotoTargets { .. }
         | Request::Goto { .. }
@@ -169,16 +220,17 @@ fn evaluated(
     }
 }
 
-/// The lines that put breakpoints in place of those that there are.
+/// The lines that put breakpoints in place of those of lines that there are.
 fn break_lines(
     alloc: Global,
+    functions: &[u32],
     stops: &[NumberedStop],
     lines: &[Result<LineBreakpoint<'_>, BreakpointFault>],
 ) -> Result<Vec<String>, AllocError>
     ensures { IfOk result (λ all. map string_bytes all.items
-        ≡ map delete_line (given_numbers Kind.Breakpoints stops.now) ++ flat_map (line_for (λ asked. break_line asked.line)) lines.now) }
+        ≡ map delete_line (given_numbers Kind.Lines functions.now stops.now) ++ flat_map (line_for (λ asked. break_line asked.line)) lines.now) }
 {
-    let mut all = delete_lines(alloc, stops, Kind::Breakpoints)?;
+    let mut all = delete_lines(alloc, Kind::Lines, functions, stops)?;
     for asked in lines {
         push_break(alloc, *asked, &mut all)?;
     }
@@ -201,16 +253,61 @@ fn push_break(
     Ok(())
 }
 
+/// The lines that put breakpoints on functions of a program, in place of those of functions that there are.
+fn function_lines(
+    alloc: Global,
+    program: &Program,
+    functions: &[u32],
+    stops: &[NumberedStop],
+    asked: &[Result<FunctionBreakpoint<'_>, BreakpointFault>],
+) -> Result<Vec<String>, AllocError>
+    ensures { IfOk result (λ all. map string_bytes all.items
+        ≡ map delete_line (given_numbers Kind.Functions functions.now stops.now) ++ flat_map (function_line_for (program_view program.now)) asked.now) }
+{
+    let mut all = delete_lines(alloc, Kind::Functions, functions, stops)?;
+    for function in asked {
+        push_function(alloc, program, *function, &mut all)?;
+    }
+    Ok(all)
+}
+
+/// Puts the line that makes a breakpoint of a function behind others, where it can be made.
+fn push_function(
+    alloc: Global,
+    program: &Program,
+    asked: Result<FunctionBreakpoint<'_>, BreakpointFault>,
+    all: &mut Vec<String>,
+) -> Result<(), AllocError>
+    ensures { IfOk result (λ _. map string_bytes all.new.items
+        ≡ map string_bytes all.old.items ++ function_line_for (program_view program.now) asked.entry) }
+{
+    match asked {
+        Ok(asked) => push_at(alloc, function_line(program, asked.name.as_bytes()), all),
+        Err(_) => Ok(()),
+    }
+}
+
+/// Puts the line that makes a breakpoint on a line behind others, if there is a line.
+fn push_at(alloc: Global, line: Option<u32>, all: &mut Vec<String>) -> Result<(), AllocError>
+    ensures { IfOk result (λ _. map string_bytes all.new.items ≡ map string_bytes all.old.items ++ break_at line) }
+{
+    if let Some(line) = line {
+        all.push(format!(in alloc; "break {line}")?)?;
+    }
+    Ok(())
+}
+
 /// The lines that watch targets, in place of those that are watched.
 fn watch_lines(
     alloc: Global,
+    functions: &[u32],
     stops: &[NumberedStop],
     targets: &[Result<DataBreakpoint<'_>, BreakpointFault>],
 ) -> Result<Vec<String>, AllocError>
     ensures { IfOk result (λ all. map string_bytes all.items
-        ≡ map delete_line (given_numbers Kind.Watches stops.now) ++ flat_map (line_for (λ asked. watch_line asked.target.now)) targets.now) }
+        ≡ map delete_line (given_numbers Kind.Watches functions.now stops.now) ++ flat_map (line_for (λ asked. watch_line asked.target.now)) targets.now) }
 {
-    let mut all = delete_lines(alloc, stops, Kind::Watches)?;
+    let mut all = delete_lines(alloc, Kind::Watches, functions, stops)?;
     for target in targets {
         push_watch(alloc, *target, &mut all)?;
     }
@@ -233,17 +330,18 @@ fn push_watch(
     Ok(())
 }
 
-/// The lines that delete the breakpoints, or the watches.
+/// The lines that delete the stops of a kind.
 fn delete_lines(
     alloc: Global,
-    stops: &[NumberedStop],
     kind: Kind,
+    functions: &[u32],
+    stops: &[NumberedStop],
 ) -> Result<Vec<String>, AllocError>
-    ensures { IfOk result (λ lines. map string_bytes lines.items ≡ map delete_line (given_numbers kind stops.now)) }
+    ensures { IfOk result (λ lines. map string_bytes lines.items ≡ map delete_line (given_numbers kind functions.now stops.now)) }
 {
     let mut lines = Vec::new(alloc);
     for entry in stops {
-        if is_of(kind, entry.stop) {
+        if is_of(kind, functions, *entry) {
             let number = entry.number;
             lines.push(format!(in alloc; "delete {number}")?)?;
         }
@@ -251,12 +349,27 @@ fn delete_lines(
     Ok(lines)
 }
 
-/// Whether a stop is of a kind.
-pub(crate) fn is_of(kind: Kind, stop: Stop) -> bool
-    ensures { result ≡ is_of kind stop }
+/// Whether a stop is of a kind, where the breakpoints of functions have these numbers.
+pub(crate) fn is_of(kind: Kind, functions: &[u32], entry: NumberedStop) -> bool
+    ensures { result ≡ is_of kind functions.now entry }
 {
-    match (kind, stop) {
-        (Kind::Breakpoints, Stop::Line(_)) | (Kind::Watches, Stop::Watch { .. }) => true,
-        (Kind::Breakpoints, Stop::Watch { .. }) | (Kind::Watches, Stop::Line(_)) => false,
+    match kind {
+        Kind::Lines => is_on_line(entry.stop) && !is_in(functions, entry.number),
+        Kind::Functions => is_on_line(entry.stop) && is_in(functions, entry.number),
+        Kind::Watches => !is_on_line(entry.stop),
     }
+}
+
+/// Whether a stop is a breakpoint.
+fn is_on_line(stop: Stop) -> bool
+    ensures { result ≡ is_on_line stop }
+{
+    matches!(stop, Stop::Line(_))
+}
+
+/// Whether a number is one of some.
+pub(crate) fn is_in(numbers: &[u32], number: u32) -> bool
+    ensures { result ≡ is_in numbers.now number }
+{
+    numbers.iter().any(|one| *one == number)
 }

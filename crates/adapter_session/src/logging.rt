@@ -1,75 +1,59 @@
 //! The messages of an editor's breakpoints that write a text in place of stopping.
-ghost use Rattle.std.specs.Prelude.{◌≡◌, ◌∷◌, [], List, Result, drop};
-ghost use Rattle.gang_model.specs.Debugger.Debugger.{Debugger, Setting};
-ghost use Rattle.debug_session.specs.Sessions.{StandsFor};
+ghost use Rattle.std.specs.Prelude.{◌≡◌, [], drop, map};
 ghost use Rattle.conditional_stops.specs.Views.{table_of};
 ghost use Rattle.log_points.specs.Points.{logs_of, message_of};
-ghost use Rattle.adapter_session.specs.Given.{given_numbers};
-ghost use Rattle.adapter_session.specs.Requested.{is_breakpoint, numbers_of};
+ghost use Rattle.adapter_session.specs.Changes.{asked_view, text_of};
+ghost use Rattle.adapter_session.specs.Given.{all_numbers};
 ghost use Rattle.adapter_session.specs.Terms as spec;
-ghost use Rattle.adapter_session.specs.Terms.{text_of};
 
-use crate::lines::Kind;
-use crate::terms::{can_stand, next_breakpoint};
-use adapter_requests::{BreakpointFault, LineBreakpoint};
+use crate::changes::Asked;
 use conditional_stops::Conditions;
 use debug_answers::NumberedStop;
-use debug_session::Session;
-use debug_traits::RecordedMachine;
 use log_points::Logs;
 
-/// The breakpoints that are to write a text, of entries whose breakpoints stand in a session, with these conditions and counts.
-pub(crate) fn asked_logs<M: RecordedMachine>(
-    session: &Session<M>,
-    entries: &[Result<LineBreakpoint<'_>, BreakpointFault>],
+/// Those that write a text, of stops that stand and of those of them that came, with these conditions and counts.
+pub(crate) fn given_logs(
+    logs: &Logs,
+    stops: &[NumberedStop],
+    came: &[NumberedStop],
+    asked: &[Asked<'_>],
     terms: Conditions,
 ) -> Logs
-    ensures points { (s : Setting) (d : Debugger) → StandsFor M.stands session.now s d
-        → logs_of result ≡ spec.asked_logs s entries.now (numbers_of is_breakpoint d.stops) }
+    ensures points { logs_of result ≡ spec.given_logs (all_numbers stops.now) (all_numbers came.now) (map asked_view asked.now) (logs_of logs.now) }
     ensures terms { table_of result.terms ≡ table_of terms }
 {
-    let mut logs = Logs::new(terms);
-    let mut stops = session.stops();
-    for entry in entries {
-        stops = log_entry(session.machine(), *entry, &mut logs, stops);
-    }
-    logs
+    let mut kept = carried_logs(logs, stops, stops, terms);
+    log_all(&mut kept, came, asked);
+    kept
 }
 
-/// Gives the first of some breakpoints the message of an entry, if it can stand, and says which stand behind it.
-fn log_entry<'a, M: RecordedMachine>(
-    machine: &M,
-    entry: Result<LineBreakpoint<'_>, BreakpointFault>,
-    logs: &mut Logs,
-    stops: &'a [NumberedStop],
-) -> &'a [NumberedStop]
-    ensures points { (s : Setting) (d : Debugger) (others : List (Result LineBreakpoint BreakpointFault)) → M.stands machine.now s d
-        → spec.logged (spec.standing s (entry.entry ∷ others)) (given_numbers Kind.Breakpoints stops.now) (logs_of logs.old)
-        ≡ spec.logged (spec.standing s others) (given_numbers Kind.Breakpoints result.now) (logs_of logs.new) }
+/// Gives stops, one after another, the message that is asked for each.
+fn log_all(logs: &mut Logs, came: &[NumberedStop], asked: &[Asked<'_>])
+    ensures points { logs_of logs.new ≡ spec.logged (map asked_view asked.now) (all_numbers came.now) (logs_of logs.old) }
     ensures terms { logs.new.terms ≡ logs.old.terms }
 {
-    match entry {
-        Ok(asked) if can_stand(machine, asked.line) => log_next(logs, stops, asked.log),
-        Ok(_) | Err(_) => stops,
+    let mut stops = came;
+    for one in asked {
+        stops = log_next(logs, stops, one.log);
     }
 }
 
-/// Gives the first of some breakpoints its message, if it has one, and says which stand behind it.
+/// Gives the first of some stops its message, if it has one, and says which stand behind it.
 fn log_next<'a>(
     logs: &mut Logs,
     stops: &'a [NumberedStop],
     message: Option<&str>,
 ) -> &'a [NumberedStop]
-    ensures given { logs_of logs.new ≡ spec.first_logged (given_numbers Kind.Breakpoints stops.now) (text_of message.entry) (logs_of logs.old) }
-    ensures behind { given_numbers Kind.Breakpoints result.now ≡ drop 1 (given_numbers Kind.Breakpoints stops.now) }
+    ensures given { logs_of logs.new ≡ spec.first_logged (all_numbers stops.now) (text_of message.entry) (logs_of logs.old) }
+    ensures behind { all_numbers result.now ≡ drop 1 (all_numbers stops.now) }
     ensures terms { logs.new.terms ≡ logs.old.terms }
 {
-    match next_breakpoint(stops) {
-        Some((number, others)) => {
-            put(logs, number, message);
+    match stops {
+        [first, others @ ..] => {
+            put(logs, first.number, message);
             others
         }
-        None => stops,
+        [] => stops,
     }
 }
 
@@ -91,7 +75,7 @@ pub(crate) fn carried_logs(
     stops: &[NumberedStop],
     terms: Conditions,
 ) -> Logs
-    ensures points { logs_of result ≡ spec.carried_logs (logs_of asked.now) (spec.all_numbers old.now) (spec.all_numbers stops.now) [] }
+    ensures points { logs_of result ≡ spec.carried_logs (logs_of asked.now) (all_numbers old.now) (all_numbers stops.now) [] }
     ensures terms { table_of result.terms ≡ table_of terms }
 {
     let mut logs = Logs::new(terms);
@@ -109,8 +93,8 @@ fn carry_log<'a>(
     logs: &mut Logs,
     stops: &'a [NumberedStop],
 ) -> &'a [NumberedStop]
-    ensures given { logs_of logs.new ≡ spec.first_logged (spec.all_numbers stops.now) (message_of number (logs_of asked.now)) (logs_of logs.old) }
-    ensures behind { spec.all_numbers result.now ≡ drop 1 (spec.all_numbers stops.now) }
+    ensures given { logs_of logs.new ≡ spec.first_logged (all_numbers stops.now) (message_of number (logs_of asked.now)) (logs_of logs.old) }
+    ensures behind { all_numbers result.now ≡ drop 1 (all_numbers stops.now) }
     ensures terms { logs.new.terms ≡ logs.old.terms }
 {
     match stops {

@@ -1,154 +1,158 @@
-//! The conditions and the counts of an editor's breakpoints, and the messages of those that write a text in place of stopping.
-ghost use Rattle.std.specs.Prelude.{◌≡◌, ◌∷◌, [], List, Result, drop, IfNone, IfSome, Some};
-ghost use Rattle.gang_model.specs.Debugger.Debugger.{Debugger, Setting};
-ghost use Rattle.debug_session.specs.Sessions.{StandsFor};
+//! The conditions and the counts of an editor's breakpoints and watches, the messages of those that write a text in place of stopping, and
+//! which breakpoints are functions'.
+ghost use Rattle.std.specs.Prelude.{◌≡◌, ◌∷◌, [], drop, if◌then◌else◌, map, Some};
 ghost use Rattle.conditional_stops.specs.Tables.{Table, condition_of, nothing, passes_of};
 ghost use Rattle.conditional_stops.specs.Views.{table_of};
 ghost use Rattle.log_points.specs.Points.{logs_of};
-ghost use Rattle.adapter_session.specs.Given.{given_numbers};
-ghost use Rattle.adapter_session.specs.Requested.{is_breakpoint, numbers_of};
+ghost use Rattle.adapter_session.specs.Changes.{asked_view, change_view, text_of};
+ghost use Rattle.adapter_session.specs.Given.{all_numbers};
 ghost use Rattle.adapter_session.specs.Terms as spec;
-ghost use Rattle.adapter_session.specs.Terms.{replaced, terms_of, text_of};
+ghost use Rattle.adapter_session.specs.Terms.{terms_of};
 
-use crate::lines::{Kind, is_of};
-use crate::logging::{asked_logs, carried_logs};
-use adapter_requests::{BreakpointFault, LineBreakpoint};
+use crate::changes::{Asked, Change};
+use crate::lines::{Kind, is_in};
+use crate::logging::{carried_logs, given_logs};
+use arrayvec::ArrayVec;
 use conditional_stops::Conditions;
 use debug_answers::NumberedStop;
-use debug_session::Session;
-use debug_traits::RecordedMachine;
 use log_points::Logs;
 
-/// The conditions and the counts of breakpoints, by their numbers: as they were asked for, and as the run has left them. And those that
-/// write a text, which stop nowhere, with what the run has left of their conditions and counts.
+/// How many breakpoints of functions can be there.
+const ROOM: usize = 64;
+
+/// The conditions and the counts of breakpoints and watches, by their numbers: as they were asked for, and as the run has left them. And
+/// those that write a text, which stop nowhere, with what the run has left of their conditions and counts; and which are functions'.
 #[derive(Drop)]
 pub struct Terms {
     pub(crate) asked: Conditions,
     pub(crate) left: Conditions,
     pub(crate) logs: Logs,
+    pub(crate) functions: ArrayVec<u32, ROOM>,
 }
 
 impl Terms {
-    /// No condition, no count and no message.
+    /// No condition, no count and no message, and no breakpoint of a function.
     pub fn new() -> Self
-        ensures { terms_of result ≡ spec.anew nothing [] }
+        ensures { terms_of result ≡ spec.anew nothing [] [] }
     {
         Terms {
             asked: Conditions::new(),
             left: Conditions::new(),
             logs: Logs::new(Conditions::new()),
+            functions: ArrayVec::new(),
         }
     }
 
-    /// Those of breakpoints that were asked for and stand in a session now.
-    fn of_entries<M: RecordedMachine>(
-        session: &Session<M>,
-        entries: &[Result<LineBreakpoint<'_>, BreakpointFault>],
-    ) -> Self
-        ensures { (s : Setting) (d : Debugger) → StandsFor M.stands session.now s d
-            → terms_of result ≡ spec.asked_terms s entries.now (numbers_of is_breakpoint d.stops) }
-    {
-        let asked = asked_table(session, entries);
-        let left = asked_table(session, entries);
-        let terms = asked_table(session, entries);
-        let logs = asked_logs(session, entries, terms);
-        Terms::anew(asked, left, logs)
-    }
-
     /// Those of which no stop was passed yet, by three tables that are the same.
-    fn anew(asked: Conditions, left: Conditions, logs: Logs) -> Self
+    fn anew(asked: Conditions, left: Conditions, logs: Logs, functions: ArrayVec<u32, ROOM>) -> Self
         ensures { (table : Table) → table_of asked ≡ table → table_of left ≡ table → table_of logs.terms ≡ table
-            → terms_of result ≡ spec.anew table (logs_of logs) }
+            → terms_of result ≡ spec.anew table (logs_of logs) functions.items }
     {
         let mut left = left;
         logs.silence(&mut left);
-        Terms { asked, left, logs }
+        Terms {
+            asked,
+            left,
+            logs,
+            functions,
+        }
     }
 
-    /// Puts those of breakpoints that were asked for in place of all, where these are the program's.
-    pub(crate) fn replace<M: RecordedMachine>(
-        &mut self,
-        is_program: bool,
-        session: &Session<M>,
-        entries: &[Result<LineBreakpoint<'_>, BreakpointFault>],
-    )
-        ensures { (s : Setting) (d : Debugger) → StandsFor M.stands session.now s d → terms_of self.new
-            ≡ replaced is_program (spec.asked_terms s entries.now (numbers_of is_breakpoint d.stops)) (terms_of self.old) }
+    /// Gives those that came in place of others what is asked for them; the others of these stops have their own still.
+    pub(crate) fn change(&mut self, stops: &[NumberedStop], change: &Change<'_>)
+        ensures { terms_of self.new ≡ spec.changed (change_view change.now).kind (all_numbers stops.now) (drop (change_view change.now).staying (all_numbers stops.now))
+            (change_view change.now).asked (terms_of self.old) }
     {
-        if is_program {
-            *self = Terms::of_entries(session, entries);
+        let came = behind(stops, change.staying);
+        let asked = change.asked.as_slice();
+        let terms = given(self.logs.terms(), stops, came, asked);
+        let logs = given_logs(&self.logs, stops, came, asked, terms);
+        let mut left = given(&self.left, stops, came, asked);
+        logs.silence(&mut left);
+        self.asked = given(&self.asked, stops, came, asked);
+        self.left = left;
+        self.logs = logs;
+        self.change_functions(change.kind, came);
+    }
+
+    /// Notes which breakpoints are functions', where those of a kind came.
+    fn change_functions(&mut self, kind: Kind, came: &[NumberedStop])
+        ensures functions { self.new.functions.items ≡ spec.functions_after kind (all_numbers came.now) self.old.functions.items }
+        ensures asked { self.new.asked ≡ self.old.asked }
+        ensures left { self.new.left ≡ self.old.left }
+        ensures logs { self.new.logs ≡ self.old.logs }
+    {
+        match kind {
+            Kind::Functions => self.functions = numbers(came),
+            Kind::Lines | Kind::Watches => {}
         }
     }
 
     /// Those that were asked for breakpoints, for the ones that stand in place of them.
     pub(crate) fn carried(&self, old: &[NumberedStop], stops: &[NumberedStop]) -> Self
-        ensures { terms_of result ≡ spec.anew (spec.carried (terms_of self.now).asked (spec.all_numbers old.now) (spec.all_numbers stops.now) nothing)
-            (spec.carried_logs (terms_of self.now).logs (spec.all_numbers old.now) (spec.all_numbers stops.now) []) }
+        ensures { terms_of result ≡ spec.anew (spec.carried (terms_of self.now).asked (all_numbers old.now) (all_numbers stops.now) nothing)
+            (spec.carried_logs (terms_of self.now).logs (all_numbers old.now) (all_numbers stops.now) [])
+            (spec.carried_functions (terms_of self.now).functions (all_numbers old.now) (all_numbers stops.now) []) }
     {
         let asked = carried(&self.asked, old, stops);
         let left = carried(&self.asked, old, stops);
         let terms = carried(&self.asked, old, stops);
         let logs = carried_logs(&self.logs, old, stops, terms);
-        Terms::anew(asked, left, logs)
+        let functions = carried_functions(self.functions.as_slice(), old, stops);
+        Terms::anew(asked, left, logs, functions)
     }
 }
 
-/// The table that entries ask for, whose breakpoints stand in a session.
-fn asked_table<M: RecordedMachine>(
-    session: &Session<M>,
-    entries: &[Result<LineBreakpoint<'_>, BreakpointFault>],
+/// The stops behind so many.
+fn behind(stops: &[NumberedStop], many: usize) -> &[NumberedStop]
+    ensures { all_numbers result.now ≡ drop many (all_numbers stops.now) }
+{
+    if many < stops.len() {
+        &stops[many..]
+    } else {
+        &[]
+    }
+}
+
+/// A table for stops that stand, and for those of them that came.
+fn given(
+    table: &Conditions,
+    stops: &[NumberedStop],
+    came: &[NumberedStop],
+    asked: &[Asked<'_>],
 ) -> Conditions
-    ensures { (s : Setting) (d : Debugger) → StandsFor M.stands session.now s d
-        → table_of result ≡ spec.asked_table s entries.now (numbers_of is_breakpoint d.stops) }
+    ensures { table_of result ≡ spec.given (all_numbers stops.now) (all_numbers came.now) (map asked_view asked.now) (table_of table.now) }
 {
-    let mut table = Conditions::new();
-    let mut stops = session.stops();
-    for entry in entries {
-        stops = give_entry(session.machine(), *entry, &mut table, stops);
-    }
-    table
+    let mut kept = carried(table, stops, stops);
+    give_all(&mut kept, came, asked);
+    kept
 }
 
-/// Gives the first of some breakpoints what an entry asks for, if it can stand, and says which stand behind it.
-fn give_entry<'a, M: RecordedMachine>(
-    machine: &M,
-    entry: Result<LineBreakpoint<'_>, BreakpointFault>,
-    table: &mut Conditions,
-    stops: &'a [NumberedStop],
-) -> &'a [NumberedStop]
-    ensures { (s : Setting) (d : Debugger) (others : List (Result LineBreakpoint BreakpointFault)) → M.stands machine.now s d
-        → spec.numbered (spec.standing s (entry.entry ∷ others)) (given_numbers Kind.Breakpoints stops.now) (table_of table.old)
-        ≡ spec.numbered (spec.standing s others) (given_numbers Kind.Breakpoints result.now) (table_of table.new) }
+/// Gives stops, one after another, the condition and the count that are asked for each.
+fn give_all(table: &mut Conditions, came: &[NumberedStop], asked: &[Asked<'_>])
+    ensures { table_of table.new ≡ spec.numbered (map asked_view asked.now) (all_numbers came.now) (table_of table.old) }
 {
-    match entry {
-        Ok(asked) if can_stand(machine, asked.line) => give_next(table, stops, asked),
-        Ok(_) | Err(_) => stops,
+    let mut stops = came;
+    for one in asked {
+        stops = give_next(table, stops, *one);
     }
 }
 
-/// Whether a breakpoint can stand on a line or behind it.
-pub(crate) fn can_stand<M: RecordedMachine>(machine: &M, line: u32) -> bool
-    ensures { (s : Setting) (d : Debugger) → M.stands machine.now s d → result ≡ spec.can_stand s line }
-{
-    machine.line_from(line).is_some()
-}
-
-/// Gives the first of some breakpoints its condition and its count, and says which stand behind it.
+/// Gives the first of some stops its condition and its count, and says which stand behind it.
 fn give_next<'a>(
     table: &mut Conditions,
     stops: &'a [NumberedStop],
-    asked: LineBreakpoint<'_>,
+    asked: Asked<'_>,
 ) -> &'a [NumberedStop]
-    ensures given { table_of table.new
-        ≡ spec.first_given (given_numbers Kind.Breakpoints stops.now) (text_of asked.entry.condition) asked.entry.passes (table_of table.old) }
-    ensures behind { given_numbers Kind.Breakpoints result.now ≡ drop 1 (given_numbers Kind.Breakpoints stops.now) }
+    ensures given { table_of table.new ≡ spec.first_given (all_numbers stops.now) (asked_view asked.entry).condition (asked_view asked.entry).passes (table_of table.old) }
+    ensures behind { all_numbers result.now ≡ drop 1 (all_numbers stops.now) }
 {
-    match next_breakpoint(stops) {
-        Some((number, others)) => {
-            give(table, number, bytes_of(asked.condition), asked.passes);
+    match stops {
+        [first, others @ ..] => {
+            give(table, first.number, bytes_of(asked.condition), asked.passes);
             others
         }
-        None => stops,
+        [] => stops,
     }
 }
 
@@ -162,24 +166,66 @@ fn bytes_of(text: Option<&str>) -> Option<&[u8]>
     }
 }
 
-/// The number of the first breakpoint, and what stands behind it.
-pub(crate) fn next_breakpoint(stops: &[NumberedStop]) -> Option<(u32, &[NumberedStop])>
-    ensures some { IfSome result (λ next. given_numbers Kind.Breakpoints stops.now ≡ next.0 ∷ given_numbers Kind.Breakpoints next.1.now) }
-    ensures none { IfNone result (given_numbers Kind.Breakpoints stops.now ≡ []) }
+/// The numbers of stops, as many as there is room for.
+fn numbers(stops: &[NumberedStop]) -> ArrayVec<u32, ROOM>
+    ensures { result.items ≡ spec.with_numbers (all_numbers stops.now) [] }
 {
-    for index in 0..stops.len() {
-        let entry = stops[index];
-        if is_of(Kind::Breakpoints, entry.stop) {
-            return Some((entry.number, &stops[index + 1..]));
-        }
+    let mut numbers = ArrayVec::new();
+    for entry in stops {
+        put_number(&mut numbers, entry.number);
     }
-    None
+    numbers
+}
+
+/// Puts a number behind others, where there is room.
+fn put_number(numbers: &mut ArrayVec<u32, ROOM>, number: u32)
+    ensures { numbers.new.items ≡ spec.with_number number numbers.old.items }
+{
+    if numbers.len() < ROOM {
+        numbers.push(number);
+    }
+}
+
+/// The numbers of functions' breakpoints, for the ones that stand in place of them.
+fn carried_functions(
+    functions: &[u32],
+    old: &[NumberedStop],
+    stops: &[NumberedStop],
+) -> ArrayVec<u32, ROOM>
+    ensures { result.items ≡ spec.carried_functions functions.now (all_numbers old.now) (all_numbers stops.now) [] }
+{
+    let mut made = ArrayVec::new();
+    let mut stops = stops;
+    for entry in old {
+        stops = carry_function(is_in(functions, entry.number), &mut made, stops);
+    }
+    made
+}
+
+/// Notes the first of some stops, where it is a function's, and says which stand behind it.
+fn carry_function<'a>(
+    is_function: bool,
+    made: &mut ArrayVec<u32, ROOM>,
+    stops: &'a [NumberedStop],
+) -> &'a [NumberedStop]
+    ensures noted { made.new.items ≡ (if is_function then spec.with_first (all_numbers stops.now) made.old.items else made.old.items) }
+    ensures behind { all_numbers result.now ≡ drop 1 (all_numbers stops.now) }
+{
+    match stops {
+        [first, others @ ..] => {
+            if is_function {
+                put_number(made, first.number);
+            }
+            others
+        }
+        [] => stops,
+    }
 }
 
 /// The table that was asked for stops, for the ones that stand in place of them.
 fn carried(asked: &Conditions, old: &[NumberedStop], stops: &[NumberedStop]) -> Conditions
     ensures { table_of result
-        ≡ spec.carried (table_of asked.now) (spec.all_numbers old.now) (spec.all_numbers stops.now) nothing }
+        ≡ spec.carried (table_of asked.now) (all_numbers old.now) (all_numbers stops.now) nothing }
 {
     let mut table = Conditions::new();
     let mut stops = stops;
@@ -196,9 +242,9 @@ fn carry<'a>(
     table: &mut Conditions,
     stops: &'a [NumberedStop],
 ) -> &'a [NumberedStop]
-    ensures given { table_of table.new ≡ spec.first_given (spec.all_numbers stops.now) (condition_of number (table_of asked.now))
+    ensures given { table_of table.new ≡ spec.first_given (all_numbers stops.now) (condition_of number (table_of asked.now))
         (passes_of number (table_of asked.now)) (table_of table.old) }
-    ensures behind { spec.all_numbers result.now ≡ drop 1 (spec.all_numbers stops.now) }
+    ensures behind { all_numbers result.now ≡ drop 1 (all_numbers stops.now) }
 {
     match stops {
         [first, others @ ..] => {

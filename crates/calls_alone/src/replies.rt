@@ -22,9 +22,7 @@ const CONDITION: &str = "n + t[1] > 0";
 /// Makes the call of a name, if there is memory for what it is called on.
 pub(crate) fn call(alloc: Global, name: &str) -> Option<Ended> {
     match name {
-        "adapter_session::command_lines" => {
-            Some(end_of(&command_lines(alloc, PROGRAM, 1, &Request::StepIn, &[])))
-        }
+        "adapter_session::command_lines" => Some(list_lines(alloc, &session(alloc)?)),
         "adapter_session::answer_request" => Some(step(alloc, &mut session(alloc)?)),
         "adapter_session::stop_at_beginning" => begin(alloc),
         "adapter_replies::no_value_text" => Some(end_of(&no_value_text(alloc, NoValue::NoFrame))),
@@ -76,6 +74,12 @@ fn begin(alloc: Global) -> Option<Ended> {
             reason: _,
         } => Some(Ended::Otherwise),
     }
+}
+
+/// The lines of a request to step.
+fn list_lines(alloc: Global, session: &ProgramSession<4>) -> Ended {
+    let terms = Terms::new();
+    end_of(&command_lines(alloc, PROGRAM, &terms, session, &Request::StepIn))
 }
 
 /// Replies the frames.

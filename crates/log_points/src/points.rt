@@ -93,6 +93,13 @@ impl Logs {
             .find(|point| point.number == number)
     }
 
+    /// The conditions and the counts of those that are there, as the run has left them.
+    pub fn terms(&self) -> &Conditions
+        ensures { result.now ≡ self.now.terms }
+    {
+        &self.terms
+    }
+
     /// Disables those that write a text: none of their stops counts.
     pub fn silence(&self, conditions: &mut Conditions)
         ensures { table_of conditions.new ≡ spec.silenced (logs_of self.now) (table_of conditions.old) }
