@@ -1,11 +1,12 @@
 //! The breakpoints and watches that were asked for.
-ghost use Rattle.std.specs.Prelude.{◌≡◌, ℕ, List, IfOk, None, map};
+ghost use Rattle.std.specs.Prelude.{◌≡◌, ℕ, List, IfOk, None, Some, map};
 ghost use Rattle.gang_model.specs.Debugger.Debugger as model;
-ghost use Rattle.gang_model.specs.Debugger.Debugger.{Debugger, Setting, first_stop, global_named, least_from, step_lines};
+ghost use Rattle.gang_model.specs.Debugger.Debugger.{Debugger, Setting, first_stop, global_named, least_from, on_line, step_lines};
 ghost use Rattle.gang_model.specs.Texts.CommandText.{command_of};
 ghost use Rattle.debug_answers.specs.Meanings.{AreStops, IsStop};
 ghost use Rattle.debug_commands.specs.Views.{target_view};
 ghost use Rattle.gang_model.specs.Source.Names.{same_text};
+ghost use Rattle.adapter_requests.specs.declared.reply.BreakpointFault.TheVariants as fault;
 ghost use Rattle.adapter_replies.specs.Breakpoints.{IsWatchableTold, breakpoint_of, can_watch, has_name, has_target, is_part, is_watchable, no_watch, on_function, same_index, standing, told_breakpoint, told_function, told_watch, watch_number, watches_target};
 
 use crate::parts::has_parts;
@@ -64,11 +65,7 @@ fn breakpoint_from<M: RecordedMachine>(machine: &M, stops: &[NumberedStop], line
 {
     match machine.line_from(line) {
         None => Breakpoint::Refused(BreakpointFault::NoStep),
-        Some(line) => standing(
-            breakpoint_on(line, stops),
-            Some(line),
-            BreakpointFault::Full,
-        ),
+        Some(line) => standing_on(stops, line),
     }
 }
 
@@ -113,12 +110,20 @@ fn on_function(stops: &[NumberedStop], line: Option<u32>) -> Breakpoint
 {
     match line {
         None => Breakpoint::Refused(BreakpointFault::NoFunction),
-        Some(line) => standing(
-            breakpoint_on(line, stops),
-            Some(line),
-            BreakpointFault::Full,
-        ),
+        Some(line) => standing_on(stops, line),
     }
+}
+
+/// The breakpoint on a line among those that there are: where it is not there no more can be.
+fn standing_on(stops: &[NumberedStop], line: u32) -> Breakpoint
+    ensures { (s : Setting) (meant : List (ℕ × model.Stop)) → AreStops s stops.now meant
+        → result ≡ standing (first_stop (on_line (Some line)) meant) (Some line) fault.Full }
+{
+    standing(
+        breakpoint_on(line, stops),
+        Some(line),
+        BreakpointFault::Full,
+    )
 }
 
 /// A breakpoint or a watch by its number and its line; without a number it is not there for this reason.

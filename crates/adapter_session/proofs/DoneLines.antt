@@ -1,5 +1,5 @@
 -- Lines that are done one after another.
-use Rattle.std.proofs.Common.{◌≡◌, refl, ap, sym, subst, List, [], ◌++◌, Option, Some, None}
+use Rattle.std.proofs.Common.{◌≡◌, refl, ap, sym, subst, ℕ, List, [], ◌++◌, Option, Some, None}
 use Rattle.std.proofs.lemmas.Grind.{flat_map-append}
 use Rattle.gang_model.specs.Debugger.Debugger as model
 use Rattle.gang_model.specs.Debugger.Debugger.{Command, Debugger, Setting, depth, now}
@@ -60,16 +60,16 @@ module _ {M : Type 0} (stands : M → Setting → Debugger → Type 0) (s : Sett
       }
 
   -- the lines of a request that were done are its commands that were done
-  pub request_done : (program : Bytes) (request : Request) (d : Debugger) (last : Option Answer) (new : Session M) → DoesLines stands s (lines_of program (depth (now s d)) d.stops request) d last new
-      → HasDone stands s (spelled (lines_of program (depth (now s d)) d.stops request)) d new
-  request_done program request d last new does = has_done (lines_of program (depth (now s d)) d.stops request) d last new does
+  pub request_done : (program : Bytes) (functions : List ℕ) (request : Request) (d : Debugger) (last : Option Answer) (new : Session M) → DoesLines stands s (lines_of s.program program functions (depth (now s d)) d.stops request) d last new
+      → HasDone stands s (spelled (lines_of s.program program functions (depth (now s d)) d.stops request)) d new
+  request_done program functions request d last new does = has_done (lines_of s.program program functions (depth (now s d)) d.stops request) d last new does
 
   -- what is told where a session stands after lines, told of the request whose lines they are
-  pub request_told : (program : Bytes) (request : Request) (d : Debugger) (told : Reply) (last : Option Answer) (new : Session M) → DoesLines stands s (lines_of program (depth (now s d)) d.stops request) d last new
-      → ((after : Debugger) (meant : model.Answer) → StandsFor stands new s after → MeansLast s after last meant → MayTell s program after last meant request told) → IsToldByLines stands s program request d told new
-  request_told program request d told None new does tells =
+  pub request_told : (program : Bytes) (functions : List ℕ) (request : Request) (d : Debugger) (told : Reply) (last : Option Answer) (new : Session M) → DoesLines stands s (lines_of s.program program functions (depth (now s d)) d.stops request) d last new
+      → ((after : Debugger) (meant : model.Answer) → StandsFor stands new s after → MeansLast s after last meant → MayTell s program after last meant request told) → IsToldByLines stands s program functions request d told new
+  request_told program functions request d told None new does tells =
       record { last = None; does = does; after = d; there = does.1; meant = model.Silent; means = tt; tells = tells d model.Silent does.1 tt }
-  request_told program request d told (Some given) new does tells =
+  request_told program functions request d told (Some given) new does tells =
       let reply = does.does.reply in
       let replied = does.does.replied in
       record { last = Some given; does = does; after = reply.next; there = replied.there; meant = reply.answer; means = replied.means; tells = tells reply.next reply.answer replied.there replied.means }

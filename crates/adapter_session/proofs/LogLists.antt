@@ -1,41 +1,27 @@
 -- Messages that breakpoints get, one after another.
-use Rattle.std.proofs.Common.{◌≡◌, ap, sym, ◌∙◌, ℕ, ◌+◌, ◌<◌, ◌≤◌, true, false, List, [], ◌∷◌, length, drop, get_or, Result, Ok}
+use Rattle.std.proofs.Common.{◌≡◌, ap, sym, ◌∙◌, ℕ, ◌+◌, ◌<◌, ◌≤◌, List, [], ◌∷◌, length, drop, get_or, map}
 use Rattle.std.proofs.lemmas.List.{at_drop_more, at_drop_all}
-use Rattle.gang_model.specs.Debugger.Debugger.{Setting}
 use Rattle.debug_answers.specs.declared.stops.NumberedStop.{NumberedStop}
-use Rattle.adapter_requests.specs.declared.reply.BreakpointFault.{BreakpointFault}
-use Rattle.adapter_requests.specs.declared.request.LineBreakpoint.{LineBreakpoint}
 use Rattle.conditional_stops.specs.Tables.{Table}
 use Rattle.log_points.specs.Points.{Log, message_of, silenced}
-use Rattle.adapter_session.specs.Terms.{Terms, all_numbers, anew, can_stand, carried_logs, first_logged, logged, standing, text_of}
-use Rattle.adapter_session.proofs.TermLists.{stands_first, stands_not}
+use Rattle.adapter_session.specs.declared.changes.Asked.{Asked}
+use Rattle.adapter_session.specs.Changes.{asked_view}
+use Rattle.adapter_session.specs.Given.{all_numbers}
+use Rattle.adapter_session.specs.Terms.{Terms, anew, carried_logs, first_logged, logged}
 
--- the message of an entry that can stand
-pub logs_entry : (s : Setting) (entry : Result LineBreakpoint BreakpointFault) (asked : LineBreakpoint) (others : List (Result LineBreakpoint BreakpointFault)) (before after : List ℕ) (old new : List Log) → entry ≡ Ok asked → can_stand s asked.line ≡ true
-    → new ≡ first_logged before (text_of asked.log) old → after ≡ drop 1 before
-    → logged (standing s (entry ∷ others)) before old ≡ logged (standing s others) after new
-logs_entry s entry asked others before after old new is stands given behind =
-    ap (λ e. logged (standing s (e ∷ others)) before old) is
-    ∙ ap (λ list. logged list before old) (stands_first s asked others stands)
-    ∙ ap (λ logs. logged (standing s others) (drop 1 before) logs) (sym given)
-    ∙ ap (λ left. logged (standing s others) left new) (sym behind)
+-- one more gets its message
+pub logs_more : (asked : List Asked) (i : ℕ) (x : Asked) (before after : List ℕ) (old new total : List Log) → i < length asked
+    → new ≡ first_logged before (asked_view (get_or asked i x)).log old → after ≡ drop 1 before
+    → logged (map asked_view (drop i asked)) before old ≡ total → logged (map asked_view (drop (i + 1) asked)) after new ≡ total
+logs_more asked i x before after old new total within given behind so =
+    let others = map asked_view (drop (i + 1) asked) in
+    ap (λ left. logged others left new) behind
+    ∙ ap (λ l. logged others (drop 1 before) l) given
+    ∙ sym (ap (λ list. logged list before old) (at_drop_more (map asked_view) asked i x within))
+    ∙ so
 
--- and of one that cannot
-pub logs_nothing : (s : Setting) (entry : Result LineBreakpoint BreakpointFault) (asked : LineBreakpoint) (others : List (Result LineBreakpoint BreakpointFault)) (before : List ℕ) (logs : List Log) → entry ≡ Ok asked → can_stand s asked.line ≡ false
-    → logged (standing s (entry ∷ others)) before logs ≡ logged (standing s others) before logs
-logs_nothing s entry asked others before logs is stands =
-    ap (λ e. logged (standing s (e ∷ others)) before logs) is ∙ ap (λ list. logged list before logs) (stands_not s asked others stands)
-
--- one entry more
-pub log_more : (s : Setting) (entries : List (Result LineBreakpoint BreakpointFault)) (i : ℕ) (x : Result LineBreakpoint BreakpointFault) (before after : List ℕ) (old new total : List Log) → i < length entries
-    → logged (standing s (get_or entries i x ∷ drop (i + 1) entries)) before old ≡ logged (standing s (drop (i + 1) entries)) after new
-    → logged (standing s (drop i entries)) before old ≡ total → logged (standing s (drop (i + 1) entries)) after new ≡ total
-log_more s entries i x before after old new total within one so =
-    sym one ∙ sym (ap (λ left. logged (standing s left) before old) (at_drop_more (λ xs. xs) entries i x within)) ∙ so
-
--- no entry is left
-pub logs_end : (s : Setting) (entries : List (Result LineBreakpoint BreakpointFault)) (i : ℕ) (left : List ℕ) (logs total : List Log) → length entries ≤ i → logged (standing s (drop i entries)) left logs ≡ total → logs ≡ total
-logs_end s entries i left logs total past so = sym (ap (λ others. logged (standing s others) left logs) (at_drop_all (λ xs. xs) entries i past)) ∙ so
+pub logs_end : (asked : List Asked) (i : ℕ) (left : List ℕ) (logs total : List Log) → length asked ≤ i → logged (map asked_view (drop i asked)) left logs ≡ total → logs ≡ total
+logs_end asked i left logs total past so = sym (ap (λ list. logged list left logs) (at_drop_all (map asked_view) asked i past)) ∙ so
 
 -- ---- made anew
 
@@ -55,11 +41,21 @@ carried_end asked old i left logs total past so = sym (ap (λ olds. carried_logs
 
 -- ---- terms of which no stop was passed yet
 
-abbrev pub terms : (asked left : Table) → List Log → (kept : Table) → Terms
-terms asked left logs kept = record { asked = asked; left = left; logs = logs; log_left = kept }
+abbrev pub terms : (asked left : Table) → List Log → (kept : Table) → (functions : List ℕ) → Terms
+terms asked left logs kept functions = record { asked = asked; left = left; logs = logs; log_left = kept; functions = functions }
 
-pub made_anew : (table asked before left kept : Table) (logs : List Log) → asked ≡ table → before ≡ table → left ≡ silenced logs before → kept ≡ table → terms asked left logs kept ≡ anew table logs
-made_anew table asked before left kept logs asked_is before_is left_is kept_is =
-    ap (λ a. terms a left logs kept) asked_is
-    ∙ ap (λ l. terms table l logs kept) (left_is ∙ ap (silenced logs) before_is)
-    ∙ ap (λ k. terms table (silenced logs table) logs k) kept_is
+pub made_anew : (table asked before left kept : Table) (logs : List Log) (functions : List ℕ) → asked ≡ table → before ≡ table → left ≡ silenced logs before → kept ≡ table → terms asked left logs kept functions ≡ anew table logs functions
+made_anew table asked before left kept logs functions asked_is before_is left_is kept_is =
+    ap (λ a. terms a left logs kept functions) asked_is
+    ∙ ap (λ l. terms table l logs kept functions) (left_is ∙ ap (silenced logs) before_is)
+    ∙ ap (λ k. terms table (silenced logs table) logs k functions) kept_is
+
+-- and those of stops of which some came in place of others
+pub made_so : (asked left kept asked_is left_is kept_is : Table) (logs logs_are : List Log) (functions functions_are : List ℕ) → asked ≡ asked_is → left ≡ left_is → logs ≡ logs_are → kept ≡ kept_is → functions ≡ functions_are
+    → terms asked left logs kept functions ≡ terms asked_is left_is logs_are kept_is functions_are
+made_so asked left kept asked_is left_is kept_is logs logs_are functions functions_are a l g k f =
+    ap (λ a. terms a left logs kept functions) a
+    ∙ ap (λ l. terms asked_is l logs kept functions) l
+    ∙ ap (λ g. terms asked_is left_is g kept functions) g
+    ∙ ap (λ k. terms asked_is left_is logs_are k functions) k
+    ∙ ap (terms asked_is left_is logs_are kept_is) f

@@ -1,18 +1,20 @@
 -- Worked rows of what a restart does, of what going to a line does, of the stop button, and of messages.
-use Rattle.std.proofs.Common.{◌≡◌, refl, None, Some, List, [], ◌∷◌, codes}
+use Rattle.std.proofs.Common.{◌≡◌, refl, None, Some, ℕ, List, [], ◌∷◌, codes}
 use Rattle.std.specs.Prelude.{not}
 use Rattle.gang_model.specs.Types.Tree.{Variable}
-use Rattle.gang_model.specs.Debugger.Debugger.{Debugger, DoBreak, DoContinue, DoDelete, DoReverseContinue, DoWatch, Line, Setting, Target, Watch}
+use Rattle.gang_model.specs.Debugger.Debugger.{Debugger, DoBreak, DoContinue, DoDelete, DoReverseContinue, DoWatch, Line, Setting, Stop, Target, Watch}
 use Rattle.debug_answers.specs.declared.answer.Answer.TheVariants as answer
 use Rattle.gang_model.specs.Texts.Text.{Bytes}
 use Rattle.conditional_stops.specs.Tables.{nothing}
 use Rattle.log_points.specs.Points.{Log}
 use Rattle.adapter_requests.specs.declared.request.Request.TheVariants as request
 use Rattle.adapter_requests.specs.declared.request.Way.TheVariants.{Backwards, Forwards}
+use Rattle.adapter_session.specs.declared.lines.Kind.TheVariants.{Functions, Lines}
+use Rattle.adapter_session.specs.Changes.{staying}
 use Rattle.adapter_session.specs.Going.{going, is_at, reached}
-use Rattle.adapter_session.specs.Requested.{commands_of, is_elsewhere, set_lines}
+use Rattle.adapter_session.specs.Requested.{break_at, commands_of, is_elsewhere, numbers_of, set_lines, test_of}
 use Rattle.adapter_session.specs.Restored.{stop_commands}
-use Rattle.adapter_session.specs.Terms.{anew, carried_logs, first_logged}
+use Rattle.adapter_session.specs.Terms.{anew, carried_functions, carried_logs, changed, first_logged}
 
 breakpoint_and_watch : (target : Target) (v : Variable) → stop_commands ((2, Line 5) ∷ (4, Watch target v) ∷ []) ≡ DoBreak 5 ∷ DoWatch target ∷ []
 breakpoint_and_watch target v = refl
@@ -42,7 +44,7 @@ in_an_outer_frame : set_lines (not (is_elsewhere 2 (Some 1))) (codes "x") (codes
 in_an_outer_frame = refl
 
 -- the stop button leaves the program as it stands
-stopped_as_it_stands : (program : Bytes) (s : Setting) (d : Debugger) → commands_of program s d request.Terminate ≡ []
+stopped_as_it_stands : (program : Bytes) (s : Setting) (d : Debugger) → commands_of program [] s d request.Terminate ≡ []
 stopped_as_it_stands program s d = refl
 
 -- breakpoint 4 has a message: it stops nowhere, and behind a restart the second one has it
@@ -55,8 +57,34 @@ its_message = refl
 no_message : first_logged (5 ∷ []) None four ≡ four
 no_message = refl
 
-it_stops_nowhere : (anew nothing four).left ≡ record nothing { disabled = 4 ∷ [] }
+it_stops_nowhere : (anew nothing four []).left ≡ record nothing { disabled = 4 ∷ [] }
 it_stops_nowhere = refl
 
 the_second_then : carried_logs four (3 ∷ 4 ∷ []) (1 ∷ 2 ∷ []) [] ≡ record { number = 2; message = codes "i is {i}" } ∷ []
 the_second_then = refl
+
+-- breakpoint 3 is a function's: it stays where lines get others, and goes where functions do
+abbrev three : List (ℕ × Stop)
+three = (2, Line 5) ∷ (3, Line 9) ∷ (4, Line 7) ∷ []
+
+those_of_lines : numbers_of (test_of Lines (3 ∷ [])) three ≡ 2 ∷ 4 ∷ []
+those_of_lines = refl
+
+those_of_functions : numbers_of (test_of Functions (3 ∷ [])) three ≡ 3 ∷ []
+those_of_functions = refl
+
+one_stays : staying Lines (3 ∷ []) three ≡ 1
+one_stays = refl
+
+-- no line is done for a name that is no function's
+no_function : break_at None ≡ []
+no_function = refl
+
+-- breakpoint 3 keeps its condition, and 5, which came, has the one that is asked for it
+asked_for_it : changed Lines (3 ∷ 5 ∷ []) (5 ∷ []) (record { condition = Some (codes "i > 2"); passes = 0; log = None } ∷ []) (anew (record nothing { conditions = (2, codes "x") ∷ (3, codes "y") ∷ [] }) [] (3 ∷ []))
+    ≡ anew (record nothing { conditions = (3, codes "y") ∷ (5, codes "i > 2") ∷ [] }) [] (3 ∷ [])
+asked_for_it = refl
+
+-- behind a restart the second one is the function's
+the_functions_then : carried_functions (3 ∷ []) (2 ∷ 3 ∷ 4 ∷ []) (1 ∷ 2 ∷ 3 ∷ []) [] ≡ 2 ∷ []
+the_functions_then = refl

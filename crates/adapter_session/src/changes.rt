@@ -57,7 +57,10 @@ pub(crate) fn change_of<'a, M: ExpressionMachine>(
 {
     let machine = session.machine();
     match request {
-        Request::SetBreakpoints { source, lines } if is_program(path, *source) => {
+        Request::SetBreakpoints { source, lines } => {
+            if !is_program(path, *source) {
+                return Ok(None);
+            }
             let asked = asked_lines(alloc, machine, lines)?;
             Ok(Some(change(Kind::Lines, functions, session.stops(), asked)))
         }

@@ -3,7 +3,7 @@
 ghost use Rattle.std.specs.Prelude.{◌≡◌, ◌∷◌, [], drop, if◌then◌else◌, map, Some};
 ghost use Rattle.conditional_stops.specs.Tables.{Table, condition_of, nothing, passes_of};
 ghost use Rattle.conditional_stops.specs.Views.{table_of};
-ghost use Rattle.log_points.specs.Points.{logs_of};
+ghost use Rattle.log_points.specs.Points.{logs_of, silenced};
 ghost use Rattle.adapter_session.specs.Changes.{asked_view, change_view, text_of};
 ghost use Rattle.adapter_session.specs.Given.{all_numbers};
 ghost use Rattle.adapter_session.specs.Terms as spec;
@@ -48,8 +48,7 @@ impl Terms {
         ensures { (table : Table) → table_of asked ≡ table → table_of left ≡ table → table_of logs.terms ≡ table
             → terms_of result ≡ spec.anew table (logs_of logs) functions.items }
     {
-        let mut left = left;
-        logs.silence(&mut left);
+        let left = silenced(&logs, left);
         Terms {
             asked,
             left,
@@ -67,10 +66,8 @@ impl Terms {
         let asked = change.asked.as_slice();
         let terms = given(self.logs.terms(), stops, came, asked);
         let logs = given_logs(&self.logs, stops, came, asked, terms);
-        let mut left = given(&self.left, stops, came, asked);
-        logs.silence(&mut left);
+        self.left = silenced(&logs, given(&self.left, stops, came, asked));
         self.asked = given(&self.asked, stops, came, asked);
-        self.left = left;
         self.logs = logs;
         self.change_functions(change.kind, came);
     }
@@ -101,6 +98,15 @@ impl Terms {
         let functions = carried_functions(self.functions.as_slice(), old, stops);
         Terms::anew(asked, left, logs, functions)
     }
+}
+
+/// A table in which those that write a text stop nowhere.
+fn silenced(logs: &Logs, table: Conditions) -> Conditions
+    ensures { table_of result ≡ silenced (logs_of logs.now) (table_of table) }
+{
+    let mut table = table;
+    logs.silence(&mut table);
+    table
 }
 
 /// The stops behind so many.

@@ -7,7 +7,7 @@ use Rattle.function_lines.specs.Lines.{first_line, function_line}
 
 -- a function whose steps stand on these lines, in the order of their numbers
 abbrev standing : ℕ → Standing
-standing line = record { place = record { line = line; column = 5 }; scope = [] }
+standing line = record { place = record { line = line; col = 5 }; scope = [] }
 
 abbrev function : List ℕ → List ℕ → Function
 function name lines = record { name = name; result = Uniform; result_type = Int32; body = Empty; standings = map standing lines }

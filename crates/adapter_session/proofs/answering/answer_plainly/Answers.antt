@@ -1,4 +1,8 @@
-use Rattle.std.proofs.Common.{refl}
+use Rattle.std.proofs.Common.{refl, ap, ◌∙◌}
+use Rattle.adapter_session.specs.Given.{all_numbers}
+use Rattle.adapter_session.specs.Restored.{numbers}
+use Rattle.adapter_session.specs.Terms.{changed_by, terms_of}
+use Rattle.adapter_session.proofs.TermLists.{numbers_same}
 use Rattle.adapter_session.proofs.answering.answer_plainly.Goals as goal
 
 pub returns-clause-done : goal.returns-clause-done
@@ -7,5 +11,10 @@ returns-clause-done g c s d there = record {
   told = c.in_ok-reply.ensures.told s d there;
   verdict = refl;
   silent = c.new.ensures;
-  terms_are = λ e at. c.change_terms.ensures s e at;
+  terms_are = λ e at.
+      let old = terms_of c.args.terms.now in
+      let stops = c.stops.result.now in
+      c.change_terms.ensures
+      ∙ ap (λ change. changed_by change (all_numbers stops) old) (c.in_ok-change.ensures s d there)
+      ∙ ap (λ ns. changed_by _ ns old) (ap all_numbers c.stops.ensures ∙ numbers_same s _ e.stops at.stops);
 }

@@ -25,6 +25,7 @@ returns g c s d there =
       goes = writes;
       asked = refl;
       logs = ap (λ points. map log_of points.items) c.continue_writing-wrote.ensures.points;
+      functions = refl;
       written = refl;
       after = ended.after;
       there = ended.there;

@@ -8,5 +8,5 @@ use Rattle.adapter_session.proofs.lines.break_lines.Goals as goal
 
 pub loop-asked-preserved : goal.loop-asked-preserved
 loop-asked-preserved c =
-    made_behind (line_for (λ (asked : LineBreakpoint). break_line asked.line)) (map delete_line (given_numbers kind.Breakpoints c.args.stops.now)) c.args.lines.now c.loop-asked.asked-index _
+    made_behind (line_for (λ (asked : LineBreakpoint). break_line asked.line)) (map delete_line (given_numbers kind.Lines c.args.functions.now c.args.stops.now)) c.args.lines.now c.loop-asked.asked-index _
     (map string_bytes c.loop-asked.all.items) (map string_bytes c.push_break.new.all.items) c.loop-asked-test.true c.loop-asked.invariant c.in_ok-push_break.ensures

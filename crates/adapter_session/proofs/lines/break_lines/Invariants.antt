@@ -6,4 +6,4 @@ use Rattle.adapter_session.specs.Requested.{break_line, delete_line, line_for}
 use Rattle.adapter_session.proofs.lines.break_lines.Given as goal
 
 abbrev pub invariant-loop-asked : goal.invariant-loop-asked
-invariant-loop-asked l = map string_bytes l.all.items ≡ map delete_line (given_numbers kind.Breakpoints l.fn.stops) ++ flat_map (line_for (λ asked. break_line asked.line)) (take l.asked-index l.lines)
+invariant-loop-asked l = map string_bytes l.all.items ≡ map delete_line (given_numbers kind.Lines l.functions l.fn.stops) ++ flat_map (line_for (λ asked. break_line asked.line)) (take l.asked-index l.lines)

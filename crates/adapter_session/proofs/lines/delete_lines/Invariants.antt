@@ -5,4 +5,4 @@ use Rattle.adapter_session.specs.Requested.{delete_line}
 use Rattle.adapter_session.proofs.lines.delete_lines.Given as goal
 
 abbrev pub invariant-loop-entry : goal.invariant-loop-entry
-invariant-loop-entry l = map string_bytes l.lines.items ≡ map delete_line (given_numbers l.kind (take l.entry-index l.stops))
+invariant-loop-entry l = map string_bytes l.lines.items ≡ map delete_line (given_numbers l.kind l.functions (take l.entry-index l.stops))

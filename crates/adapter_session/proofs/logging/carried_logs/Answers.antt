@@ -1,7 +1,8 @@
 use Rattle.std.proofs.Common.{[], ap, ◌∙◌}
 use Rattle.conditional_stops.specs.Views.{table_of}
 use Rattle.log_points.specs.Points.{logs_of}
-use Rattle.adapter_session.specs.Terms.{all_numbers, carried_logs}
+use Rattle.adapter_session.specs.Given.{all_numbers}
+use Rattle.adapter_session.specs.Terms.{carried_logs}
 use Rattle.adapter_session.proofs.LogLists.{carried_end, carries_log}
 use Rattle.adapter_session.proofs.logging.carried_logs.Goals as goal
 

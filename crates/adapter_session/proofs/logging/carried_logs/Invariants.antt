@@ -1,7 +1,8 @@
 -- what is carried to those that are left, behind those that were read
 use Rattle.std.proofs.Common.{◌≡◌, [], drop}
 use Rattle.log_points.specs.Points.{logs_of}
-use Rattle.adapter_session.specs.Terms.{all_numbers, carried_logs}
+use Rattle.adapter_session.specs.Given.{all_numbers}
+use Rattle.adapter_session.specs.Terms.{carried_logs}
 use Rattle.adapter_session.proofs.logging.carried_logs.Given as goal
 
 abbrev pub invariant-loop-entry : goal.invariant-loop-entry

@@ -1,7 +1,8 @@
 use Rattle.std.proofs.Common.{ap}
 use Rattle.conditional_stops.specs.Tables.{nothing}
 use Rattle.conditional_stops.specs.Views.{table_of}
-use Rattle.adapter_session.specs.Terms.{all_numbers, carried}
+use Rattle.adapter_session.specs.Given.{all_numbers}
+use Rattle.adapter_session.specs.Terms.{carried}
 use Rattle.adapter_session.proofs.TermLists.{carries_end, carries_more}
 use Rattle.adapter_session.proofs.terms.carried.Goals as goal
 

@@ -2,7 +2,8 @@
 use Rattle.std.proofs.Common.{◌≡◌, drop}
 use Rattle.conditional_stops.specs.Tables.{nothing}
 use Rattle.conditional_stops.specs.Views.{table_of}
-use Rattle.adapter_session.specs.Terms.{all_numbers, carried}
+use Rattle.adapter_session.specs.Given.{all_numbers}
+use Rattle.adapter_session.specs.Terms.{carried}
 use Rattle.adapter_session.proofs.terms.carried.Given as goal
 
 abbrev pub invariant-loop-entry : goal.invariant-loop-entry

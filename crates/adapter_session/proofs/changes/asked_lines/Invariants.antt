@@ -1,0 +1,8 @@
+-- what is asked for so far
+use Rattle.std.proofs.Common.{◌≡◌, flat_map, map, take}
+use Rattle.gang_model.specs.Debugger.Debugger.{Debugger, Setting}
+use Rattle.adapter_session.specs.Changes.{asked_view, of_line}
+use Rattle.adapter_session.proofs.changes.asked_lines.Given as goal
+
+abbrev pub invariant-loop-line : goal.invariant-loop-line
+invariant-loop-line g l = (s : Setting) (d : Debugger) → g.M.RecordedMachine.stands l.machine s d → map asked_view l.all.items ≡ flat_map (of_line s) (take l.line-index l.lines)
