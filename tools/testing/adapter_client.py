@@ -16,6 +16,7 @@ from .adapter_members import (
 )
 from .adapter_conditions import CONDITION_CHECKS
 from .adapter_frames import FRAME_CHECKS, written
+from .adapter_functions import FUNCTION_CHECKS
 from .adapter_launches import LAUNCH_CHECKS
 from .adapter_logs import LOG_CHECKS
 from .adapter_moves import MOVE_CHECKS
@@ -439,7 +440,7 @@ def wrong_requests(client, examples):
     client.end()
 
 
-CHECKS = [steps_and_back, watches, breaks, locations, variables, frames, faults, filters, the_end, wrong_requests, *FRAME_CHECKS, *LAUNCH_CHECKS, *LOG_CHECKS, *VALUE_CHECKS, *TARGET_CHECKS, *MOVE_CHECKS, *CONDITION_CHECKS, *PROGRAM_CHECKS]
+CHECKS = [steps_and_back, watches, breaks, locations, variables, frames, faults, filters, the_end, wrong_requests, *FRAME_CHECKS, *LAUNCH_CHECKS, *LOG_CHECKS, *VALUE_CHECKS, *TARGET_CHECKS, *MOVE_CHECKS, *CONDITION_CHECKS, *FUNCTION_CHECKS, *PROGRAM_CHECKS]
 
 
 def check(root, command):

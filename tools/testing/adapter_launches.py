@@ -119,7 +119,7 @@ def no_breakpoints(client, examples):
         {"line": 2, "hitCondition": "0"}, {"line": 2, "hitCondition": "10000001"}, {"line": 2, "hitCondition": 2}, {"line": 2, "logMessage": "x" * 257},
     ]
     found = client.ask("setBreakpoints", source={"path": client.source}, breakpoints=asked)["breakpoints"]
-    unplaced = "its line or target is missing or of a wrong type"
+    unplaced = "its line, name or target is missing or of a wrong type"
     condition, count = "its condition is no text of at most 256 bytes", "its count is no number from 1 to 10000000"
     message = "its log message is no text of at most 256 bytes"
     same([it.get("message") for it in found], [
@@ -134,8 +134,8 @@ def no_breakpoints(client, examples):
     watched = client.ask("setDataBreakpoints", breakpoints=[
         {"dataId": "x"}, {"dataId": 3}, {"dataId": "x", "condition": "1"}, {"dataId": "x", "hitCondition": "2"}, {"dataId": "x", "logMessage": "x"},
     ])["breakpoints"]
-    conditional = "a watch has no condition, no count and no log message"
-    same([it["message"] for it in watched], ["only scalars of the file, their lanes and elements of arrays are watched", unplaced, conditional, conditional, conditional])
+    unwatched = "only scalars of the file, their lanes and elements of arrays are watched"
+    same([it["message"] for it in watched], [unwatched, unplaced, unwatched, unwatched, "only a breakpoint of a line has a log message"])
     client.end()
 
 

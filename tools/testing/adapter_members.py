@@ -9,6 +9,7 @@ BODIES = {
     "initialize": ({}, {}),
     "launch": ({}, {}),
     "setBreakpoints": ({"breakpoints": LIST}, {}),
+    "setFunctionBreakpoints": ({"breakpoints": LIST}, {}),
     "breakpointLocations": ({"breakpoints": LIST}, {}),
     "gotoTargets": ({"targets": LIST}, {}),
     "goto": ({}, {}),
@@ -45,6 +46,7 @@ CAPABILITIES = [
     "supportsDelayedStackTraceLoading",
     "supportsEvaluateForHovers",
     "supportsExceptionInfoRequest",
+    "supportsFunctionBreakpoints",
     "supportsGotoTargetsRequest",
     "supportsHitConditionalBreakpoints",
     "supportsLogPoints",
@@ -53,6 +55,7 @@ CAPABILITIES = [
     "supportsSetVariable",
     "supportsStepBack",
     "supportsTerminateRequest",
+    "supportsValueFormattingOptions",
 ]
 EVENTS = {
     "initialized": ({}, {}),
@@ -75,8 +78,8 @@ ITEMS = {
 HITS = ["breakpoint", "data breakpoint"]
 REASONS = ["entry", "step", "exception", "pause", "goto", *HITS]
 HINTS = ["locals", "arguments"]
-# What a hint says of a variable, and of a constant.
-ATTRIBUTES = [[], ["constant", "readOnly"]]
+# What a hint says of a variable, of one that is only looked at where it stands, and of a constant.
+ATTRIBUTES = [[], ["readOnly"], ["constant", "readOnly"]]
 ACCESSES = ["write"]
 BREAK_MODES = ["never", "always", "unhandled", "userUnhandled"]
 GREATEST = 2**31 - 1
@@ -207,7 +210,7 @@ LISTED = {
     "completions": ("targets", {"label": TEXT, "start": NUMBER, "length": NUMBER}),
 }
 # How many of what a request lists its reply lists.
-ASKED = {"setBreakpoints": "breakpoints", "setDataBreakpoints": "breakpoints"}
+ASKED = {"setBreakpoints": "breakpoints", "setFunctionBreakpoints": "breakpoints", "setDataBreakpoints": "breakpoints"}
 
 
 def need_body(command, arguments, body):

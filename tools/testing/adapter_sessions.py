@@ -128,6 +128,13 @@ class Session:
         more = self.draw.choice([{}, {}, {}, {"condition": self.expression()}, {"hitCondition": "2"}, {"logMessage": "at {x}"}, {"column": 1}])
         return {"line": self.line(), **more}
 
+    def terms(self):
+        """A condition or a count, or a message, which only a breakpoint of a line has."""
+        return self.draw.choice([{}, {}, {}, {"condition": self.expression()}, {"hitCondition": "3"}, {"logMessage": "at {x}"}])
+
+    def function(self):
+        return {"name": self.draw.choice(("go", "f", "g", "scale", "x", "")), **self.terms()}
+
     def several(self, call):
         return [call() for _ in range(self.draw.randrange(4))]
 
@@ -158,7 +165,8 @@ class Session:
             "completions": lambda: self.completed(),
             "exceptionInfo": lambda: thread,
             "dataBreakpointInfo": lambda: {"name": draw.choice(self.names), "variablesReference": self.reference()},
-            "setDataBreakpoints": lambda: {"breakpoints": self.several(lambda: {"dataId": draw.choice(self.data), "accessType": "write"})},
+            "setFunctionBreakpoints": lambda: {"breakpoints": self.several(self.function)},
+            "setDataBreakpoints": lambda: {"breakpoints": self.several(lambda: {"dataId": draw.choice(self.data), "accessType": "write", **self.terms()})},
             "setBreakpoints": lambda: {"source": self.place(), "breakpoints": self.several(self.breakpoint)},
             "setExceptionBreakpoints": lambda: {"filters": ["faults"]},
             "breakpointLocations": lambda: {"source": self.place(), "line": self.line(), "endLine": self.line()},

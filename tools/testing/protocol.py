@@ -12,7 +12,7 @@ STANDS = ("stopped", "terminated")
 # Behind whose response the program may be told to stand: `evaluate` where it does a line of the console, and `terminate`.
 MOVES_OR_LINES = (*MOVES, "evaluate", "terminate")
 # Of which requests each entry of a list is answered.
-LISTS = {"setBreakpoints": "breakpoints", "setDataBreakpoints": "breakpoints"}
+LISTS = {"setBreakpoints": "breakpoints", "setFunctionBreakpoints": "breakpoints", "setDataBreakpoints": "breakpoints"}
 NAMED = re.compile(r"\{(\w+)\}")
 
 

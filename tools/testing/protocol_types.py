@@ -16,6 +16,7 @@ RESPONSES = {
     "launch": "Nothing",
     "configurationDone": "Nothing",
     "setBreakpoints": "Breakpoints",
+    "setFunctionBreakpoints": "Breakpoints",
     "setDataBreakpoints": "Breakpoints",
     "setExceptionBreakpoints": "FilterBreakpoints",
     "breakpointLocations": "BreakpointLocations",

@@ -9,6 +9,7 @@ from .tried import Result
 HEADS = {("response", it) for it in ("seq", "type", "request_seq", "success", "command")} | {("event", it) for it in ("seq", "type", "event")}
 NEEDED = {
     ("setBreakpoints", "breakpoints"), ("setBreakpoints", "breakpoints.verified"), ("setDataBreakpoints", "breakpoints"),
+    ("setFunctionBreakpoints", "breakpoints"), ("setFunctionBreakpoints", "breakpoints.verified"),
     ("setDataBreakpoints", "breakpoints.verified"), ("breakpointLocations", "breakpoints"), ("breakpointLocations", "breakpoints.line"),
     ("dataBreakpointInfo", "dataId"), ("dataBreakpointInfo", "description"), ("exceptionInfo", "exceptionId"), ("exceptionInfo", "breakMode"),
     ("threads", "threads"), ("threads", "threads.id"), ("threads", "threads.name"), ("stackTrace", "stackFrames"),
