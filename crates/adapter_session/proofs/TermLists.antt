@@ -1,7 +1,7 @@
 -- Conditions and counts that breakpoints and watches get, one after another, and the numbers of those of functions.
 use Rattle.std.proofs.Common.{◌≡◌, refl, ap, sym, ◌∙◌, ℕ, ◌+◌, ◌<◌, ◌≤◌, List, [], ◌∷◌, length, drop, get_or, map}
 use Rattle.std.specs.Prelude.{if◌then◌else◌}
-use Rattle.std.proofs.lemmas.List.{at_drop_more, at_drop_all}
+use Rattle.std.proofs.lemmas.List.{at_drop_more, at_drop_all, drop-map, drop_all}
 use Rattle.gang_model.specs.Debugger.Debugger as model
 use Rattle.gang_model.specs.Debugger.Debugger.{Setting}
 use Rattle.debug_answers.specs.declared.stops.NumberedStop.{NumberedStop}
@@ -13,6 +13,13 @@ use Rattle.adapter_session.specs.Given.{all_numbers}
 use Rattle.adapter_session.specs.Requested.{is_in}
 use Rattle.adapter_session.specs.Restored.{numbers}
 use Rattle.adapter_session.specs.Terms.{carried, carried_functions, first_given, numbered, with_first, with_number, with_numbers}
+
+-- the numbers of the stops behind so many, and of none
+pub those_behind : (many : ℕ) (stops : List NumberedStop) → all_numbers (drop many stops) ≡ drop many (all_numbers stops)
+those_behind many stops = sym (drop-map (λ (entry : NumberedStop). entry.number) many stops)
+
+pub none_behind : (many : ℕ) (stops : List NumberedStop) → length stops ≤ many → [] ≡ drop many (all_numbers stops)
+none_behind many stops past = sym (ap all_numbers (drop_all many stops past)) ∙ those_behind many stops
 
 -- one more is given
 pub gives_more : (asked : List Asked) (i : ℕ) (x : Asked) (before after : List ℕ) (old new total : Table) → i < length asked

@@ -85,7 +85,7 @@ fn answer_plainly<M: ExpressionMachine>(
 
 /// Puts what a request asks for in place of what there was, where it changes that and these stops are there now.
 fn change_terms(terms: &mut Terms, stops: &[NumberedStop], change: Option<Change<'_>>)
-    ensures { terms_of terms.new ≡ changed_by (option_map change_view change) (all_numbers stops.now) (terms_of terms.old) }
+    ensures { terms_of terms.new ≡ changed_by (option_map change_view change.entry) (all_numbers stops.now) (terms_of terms.old) }
 {
     if let Some(change) = change {
         terms.change(stops, &change);

@@ -44,7 +44,6 @@ pub(crate) struct Change<'a> {
 }
 
 /// What a request changes so, if it does, before it is done.
-#[tactic(auto, using(crate::proofs::StopNumbers::staying_is))]
 pub(crate) fn change_of<'a, M: ExpressionMachine>(
     alloc: Global,
     path: &str,
@@ -77,6 +76,7 @@ pub(crate) fn change_of<'a, M: ExpressionMachine>(
 }
 
 /// Stops of a kind in place of those that there are.
+#[tactic(auto, using(crate::proofs::StopNumbers::staying_is))]
 fn change<'a>(
     kind: Kind,
     functions: &[u32],
@@ -84,7 +84,7 @@ fn change<'a>(
     asked: Vec<Asked<'a>>,
 ) -> Change<'a>
     ensures { (s : Setting) (meant : List (ℕ × model.Stop)) → AreStops s stops.now meant
-        → change_view result ≡ spec.change kind functions.now meant (map asked_view asked.items) }
+        → change_view result ≡ spec.change kind functions.now meant (map asked_view asked.entry.items) }
 {
     Change {
         kind,
@@ -221,7 +221,7 @@ fn watch_if(is_there: bool, asked: DataBreakpoint<'_>) -> Option<Asked<'_>>
 
 /// Puts what is asked for behind others, if something is.
 fn push<'a>(all: &mut Vec<Asked<'a>>, asked: Option<Asked<'a>>) -> Result<(), AllocError>
-    ensures { OnOk result (map asked_view all.new.items ≡ map asked_view all.old.items ++ spec.listed (option_map asked_view asked)) }
+    ensures { OnOk result (map asked_view all.new.items ≡ map asked_view all.old.items ++ spec.listed (option_map asked_view asked.entry)) }
 {
     if let Some(asked) = asked {
         all.push(asked)?;

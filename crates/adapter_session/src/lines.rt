@@ -66,7 +66,8 @@ pub fn command_lines<M: ExpressionMachine>(
         depth: depth_of(machine),
         stops: session.stops(),
     };
-    request_lines(alloc, scene, request)
+    let lines = request_lines(alloc, scene, request)?;
+    Ok(lines)
 }
 
 /// The command lines that a request is.

@@ -1,4 +1,5 @@
-use Rattle.std.proofs.Common.{refl, ap, ◌∙◌}
+use Rattle.std.proofs.Common.{refl, ap, ◌∙◌, Option}
+use Rattle.adapter_session.specs.Changes.{Change, change_of}
 use Rattle.adapter_session.specs.Given.{all_numbers}
 use Rattle.adapter_session.specs.Restored.{numbers}
 use Rattle.adapter_session.specs.Terms.{changed_by, terms_of}
@@ -14,7 +15,8 @@ returns-clause-done g c s d there = record {
   terms_are = λ e at.
       let old = terms_of c.args.terms.now in
       let stops = c.stops.result.now in
+      let change = change_of s c.args.program.now old.functions d c.args.request.now in
       c.change_terms.ensures
-      ∙ ap (λ change. changed_by change (all_numbers stops) old) (c.in_ok-change.ensures s d there)
-      ∙ ap (λ ns. changed_by _ ns old) (ap all_numbers c.stops.ensures ∙ numbers_same s _ e.stops at.stops);
+      ∙ ap (λ (one : Option Change). changed_by one (all_numbers stops) old) (c.in_ok-change.ensures s d there)
+      ∙ ap (λ ns. changed_by change ns old) (ap all_numbers c.stops.ensures ∙ numbers_same s _ e.stops at.stops);
 }
