@@ -23,6 +23,10 @@
   "How many lanes a gang has."
   :type '(choice (const 4) (const 8) (const 16)))
 
+(defcustom rinddecade-lane-threads nil
+  "Whether each lane is a thread of its own; else the gang is the one thread."
+  :type 'boolean)
+
 (defun rinddecade--launch (launch)
   "LAUNCH with what it does not say: the adapter, and the source of the buffer."
   (let ((path (if (file-name-directory rinddecade-program) (expand-file-name rinddecade-program) rinddecade-program)))
@@ -31,6 +35,7 @@
         (dap--put-if-absent :request "launch")
         (dap--put-if-absent :name "This source")
         (dap--put-if-absent :width rinddecade-width)
+        (dap--put-if-absent :laneThreads (if rinddecade-lane-threads t :json-false))
         (dap--put-if-absent :program (buffer-file-name)))))
 
 (defvar treemacs-text-scale nil

@@ -17,6 +17,7 @@ from .adapter_members import (
 from .adapter_conditions import CONDITION_CHECKS
 from .adapter_frames import FRAME_CHECKS, written
 from .adapter_functions import FUNCTION_CHECKS
+from .adapter_lanes import LANE_CHECKS
 from .adapter_launches import LAUNCH_CHECKS
 from .adapter_logs import LOG_CHECKS
 from .adapter_moves import MOVE_CHECKS
@@ -36,7 +37,7 @@ class Client:
 
     def start(self):
         self.process = subprocess.Popen(self.command, stdin=subprocess.PIPE, stdout=subprocess.PIPE, stderr=subprocess.PIPE)
-        self.sent, self.told, self.events = 0, 0, []
+        self.sent, self.told, self.events, self.threads = 0, 0, [], [THREAD]
 
     def again(self):
         """Ends the adapter, and starts it anew."""
@@ -75,7 +76,7 @@ class Client:
         need_members(f"the event {name}", message, {"seq": NUMBER, "type": TEXT, "event": TEXT, "body": MEMBERS}, {})
         need_members(f"the body of {name}", message["body"], *EVENTS[name])
         if name == "stopped":
-            need_stop(message["body"])
+            need_stop(message["body"], self.threads)
         if name == "output":
             need(message["body"]["category"] == "console", f"the category is {message['body']['category']}")
         self.events.append((name, message["body"]))
@@ -134,6 +135,7 @@ class Client:
     def launch(self, source, **arguments):
         self.ask("initialize", adapterID="rinddecade")
         self.ask("launch", **{"program": str(source), "history": 1000, **arguments})
+        self.threads = range(1, arguments.get("width", 4) + 1) if arguments.get("laneThreads") else [THREAD]
         self.event("initialized")
         self.source = str(source)
 
@@ -440,7 +442,7 @@ def wrong_requests(client, examples):
     client.end()
 
 
-CHECKS = [steps_and_back, watches, breaks, locations, variables, frames, faults, filters, the_end, wrong_requests, *FRAME_CHECKS, *LAUNCH_CHECKS, *LOG_CHECKS, *VALUE_CHECKS, *TARGET_CHECKS, *MOVE_CHECKS, *CONDITION_CHECKS, *FUNCTION_CHECKS, *PROGRAM_CHECKS]
+CHECKS = [steps_and_back, watches, breaks, locations, variables, frames, faults, filters, the_end, wrong_requests, *FRAME_CHECKS, *LANE_CHECKS, *LAUNCH_CHECKS, *LOG_CHECKS, *VALUE_CHECKS, *TARGET_CHECKS, *MOVE_CHECKS, *CONDITION_CHECKS, *FUNCTION_CHECKS, *PROGRAM_CHECKS]
 
 
 def check(root, command):

@@ -10,7 +10,7 @@ LINES = "export void go() {\n    int x = 0;\n" + "    x += 1;\n" * 70 + "}\n"
 # An argument of a launch by a wrong type.
 WRONG_TYPES = [
     ("program", 3), ("input", 3), ("entry", ["go"]), ("width", "8"), ("width", 8.5), ("width", -4), ("history", "10"), ("steps", {}),
-    ("stopOnEntry", "false"), ("stopOnEntry", 0),
+    ("stopOnEntry", "false"), ("stopOnEntry", 0), ("laneThreads", "true"), ("laneThreads", 1),
 ]
 
 

@@ -172,10 +172,10 @@ def need_items(name, items):
     need(len(keys) == len(set(keys)), f"two of {name} are alike: {items}")
 
 
-def need_stop(body):
-    """A stop is that of the one thread, by a word of the protocol, with the breakpoint where it stands at one."""
+def need_stop(body, threads):
+    """A stop is that of one of the threads, by a word of the protocol, with the breakpoint where it stands at one."""
     need(body["reason"] in REASONS, f"the reason is {body['reason']}")
-    need(body["threadId"] == THREAD and body["allThreadsStopped"], f"not every thread has stopped: {body}")
+    need(body["threadId"] in threads and body["allThreadsStopped"], f"not every thread has stopped: {body}")
     need(body["description"] == body["text"], f"two texts: {body}")
     hits = body.get("hitBreakpointIds", [])
     need(len(hits) == (body["reason"] in HITS) and all(type(it) is NUMBER for it in hits), f"the breakpoints of the stop {body}")

@@ -27,8 +27,8 @@ ARRAYS_INPUT = f"table = {row(TABLE)}\neven = {row(EVEN)}\na = {row(GIVEN)}\ncou
 # The events that the adapter has, and requests that it refuses where an argument is wrong.
 ADAPTER_EVENTS = ("initialized", "stopped", "terminated", "output")
 REFUSABLE = (
-    "launch", "breakpointLocations", "gotoTargets", "goto", "exceptionInfo", "dataBreakpointInfo", "scopes", "variables", "setVariable",
-    "setExpression", "completions", "evaluate", "stepBack", "reverseContinue",
+    "launch", "breakpointLocations", "gotoTargets", "goto", "exceptionInfo", "dataBreakpointInfo", "stackTrace", "scopes", "variables", "setVariable",
+    "setExpression", "completions", "evaluate", "stepBack", "reverseContinue", "pause",
 )
 # Arguments that no request takes.
 WRONG = (None, True, -1, 1.5, 2**31, 2**64, "", "x", "é🙂 x", [], {}, [None], {"line": 1})
@@ -152,7 +152,7 @@ class Session:
     def request(self):
         """A request and its arguments."""
         draw = self.draw
-        thread = {"threadId": 1}
+        thread = {"threadId": draw.choice((1, 1, 1, 2, 4, 17))}
         makes = {
             "next": lambda: thread, "stepIn": lambda: {**thread, "granularity": "statement"}, "stepOut": lambda: thread, "stepBack": lambda: thread,
             "continue": lambda: thread, "reverseContinue": lambda: thread, "goto": lambda: {**thread, "targetId": draw.choice(self.targets)},
@@ -192,7 +192,7 @@ class Session:
     def launch(self):
         """A launch, which may lack what can be left out."""
         width, steps = self.draw.choice(WIDTHS), self.draw.choice((5, 300, 2000))
-        given = {"width": width, "steps": steps, "history": self.draw.choice((1, 10, 65536)), "stopOnEntry": self.draw.random() < 0.7}
+        given = {"width": width, "steps": steps, "history": self.draw.choice((1, 10, 65536)), "stopOnEntry": self.draw.random() < 0.7, "laneThreads": self.draw.random() < 0.5}
         given = {name: value for name, value in given.items() if name == "steps" or self.draw.random() < 0.8}
         return {"program": self.source, **given, **({"input": self.given["input"]} if self.given["input"] else {})}
 

@@ -303,6 +303,7 @@ IsRequestNamed name.StepOut message request.StepOut = Unit {0}
 IsRequestNamed name.Continue message request.Continue = Unit {0}
 IsRequestNamed name.StepBack message request.StepBack = Unit {0}
 IsRequestNamed name.ReverseContinue message request.ReverseContinue = Unit {0}
+IsRequestNamed name.Pause message request.Pause = Unit {0}
 IsRequestNamed name.Restart message request.Restart = Unit {0}
 IsRequestNamed name.Terminate message request.Terminate = Unit {0}
 IsRequestNamed name.Disconnect message request.Disconnect = Unit {0}

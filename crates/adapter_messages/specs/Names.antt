@@ -39,6 +39,7 @@ names =
     ∷ (codes "continue", name.Continue)
     ∷ (codes "stepBack", name.StepBack)
     ∷ (codes "reverseContinue", name.ReverseContinue)
+    ∷ (codes "pause", name.Pause)
     ∷ (codes "restart", name.Restart)
     ∷ (codes "terminate", name.Terminate)
     ∷ (codes "disconnect", name.Disconnect)

@@ -33,13 +33,14 @@ pub(crate) enum Name {
     Continue,
     StepBack,
     ReverseContinue,
+    Pause,
     Restart,
     Terminate,
     Disconnect,
 }
 
 /// The requests that are known, by their commands.
-const NAMES: [(&str, Name); 29] = [
+const NAMES: [(&str, Name); 30] = [
     ("initialize", Name::Initialize),
     ("launch", Name::Launch),
     ("setBreakpoints", Name::SetBreakpoints),
@@ -66,6 +67,7 @@ const NAMES: [(&str, Name); 29] = [
     ("continue", Name::Continue),
     ("stepBack", Name::StepBack),
     ("reverseContinue", Name::ReverseContinue),
+    ("pause", Name::Pause),
     ("restart", Name::Restart),
     ("terminate", Name::Terminate),
     ("disconnect", Name::Disconnect),

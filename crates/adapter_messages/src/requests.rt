@@ -97,6 +97,7 @@ pub fn read_request<'a>(
         Name::Continue => Ok(Request::Continue),
         Name::StepBack => Ok(Request::StepBack),
         Name::ReverseContinue => Ok(Request::ReverseContinue),
+        Name::Pause => Ok(Request::Pause),
         Name::Restart => Ok(Request::Restart),
         Name::Terminate => Ok(Request::Terminate),
         Name::Disconnect => Ok(Request::Disconnect),

@@ -2,6 +2,7 @@ pub mod ActiveLanes
 pub mod CallFrames
 pub mod ColumnUnits
 pub mod Completing
+pub mod LaneThreads
 pub mod LaneValues
 pub mod Numbered
 pub mod Opening
@@ -11,3 +12,4 @@ pub mod Rows
 pub mod ToldVariables
 pub mod TopFrame
 pub mod WorkedTargets
+pub mod WorkedThreads

@@ -12,6 +12,7 @@ pub mod References
 pub mod Shown
 pub mod Stopped
 pub mod Targets
+pub mod Threads
 pub mod Told
 pub mod Variables
 pub mod Waiting

@@ -19,6 +19,7 @@ use Rattle.adapter_requests.specs.declared.reply.Breakpoint.{Breakpoint}
 use Rattle.adapter_requests.specs.declared.reply.StopReason.{StopReason}
 use Rattle.adapter_requests.specs.declared.reply.Reply.{Reply}
 use Rattle.adapter_requests.specs.declared.reply.Reply.TheVariants as reply
+use Rattle.adapter_requests.specs.declared.reply.Thread.{Thread}
 use Rattle.adapter_requests.specs.declared.request.Context.{Context}
 use Rattle.adapter_requests.specs.declared.request.Context.TheVariants.{Console}
 use Rattle.adapter_requests.specs.declared.request.Request.{Request}
@@ -52,9 +53,13 @@ told_frames other = None
 abbrev pub AreFramesTold : (start levels : Option ℕ) → (all : List ToldFrame) → Reply → Type 0
 AreFramesTold start levels all told = told_frames told ≡ Some (asked_frames start levels all, length all)
 
--- the threads of a reply, each by its number and its name
+-- the number and the name of a thread
+abbrev pub thread_view : Thread → ℕ × Bytes
+thread_view thread = (thread.id, string_bytes thread.name)
+
+-- the threads of a reply
 abbrev pub told_threads : Reply → Option (List (ℕ × Bytes))
-told_threads (reply.Threads threads) = Some (map (λ thread. (thread.id, string_bytes thread.name)) threads.items)
+told_threads (reply.Threads threads) = Some (map thread_view threads.items)
 told_threads other = None
 
 -- what a request for threads is told: the one, which is the gang
@@ -217,6 +222,7 @@ fixed_reply other = None
 abbrev pub refusal_text : Request → Option Bytes
 refusal_text (request.Launch launch) = Some (codes "the program is launched already")
 refusal_text request.ExceptionInfo = Some no_fault
+refusal_text request.Pause = Some (codes "the program stands still already: a move ends by itself")
 refusal_text request.Restart = Some (codes "the program is launched already")
 refusal_text (request.Unknown name) = Some (codes "no request " ++ name.now)
 refusal_text other = None

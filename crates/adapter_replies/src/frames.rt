@@ -4,8 +4,10 @@ ghost use Rattle.gang_types.specs.Masks.{IsGangWidth, lanes_of};
 ghost use Rattle.gang_model.specs.Debugger.Debugger.{Debugger, Setting, now};
 ghost use Rattle.gang_model.specs.Texts.Text.{bits};
 ghost use Rattle.adapter_replies.specs.Frames.{all_frames, call_told, frame_view, position_frame};
+ghost use Rattle.adapter_replies.specs.Told.{AreFramesTold};
 
-use adapter_requests::Frame;
+use crate::pages::paged;
+use adapter_requests::{Filter, Frame, Page, Reply};
 use debug_traits::{Position, RecordedMachine};
 use gang_types::Mask;
 use std::alloc::{AllocError, Global};
@@ -32,6 +34,27 @@ pub(crate) fn frames<M: RecordedMachine>(
         push_call(alloc, machine, depth, &mut frames)?;
     }
     Ok(frames)
+}
+
+/// So many of some frames from a place on, and how many there are.
+pub(crate) fn frames_reply(
+    alloc: Global,
+    all: Vec<Frame>,
+    start: Option<u64>,
+    levels: Option<u64>,
+) -> Result<Reply, AllocError>
+    ensures { IfOk result (AreFramesTold start levels (map frame_view all.items)) }
+{
+    let total = all.len();
+    let page = Page {
+        start,
+        count: levels,
+        filter: Filter::All,
+    };
+    Ok(Reply::Frames {
+        frames: paged(alloc, all, page)?,
+        total,
+    })
 }
 
 /// Puts the frame at a depth behind others, by the call that it made, if it made one.

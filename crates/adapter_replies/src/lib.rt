@@ -18,12 +18,14 @@ mod scopes;
 mod stops;
 mod targets;
 mod texts;
+mod threads;
 mod waiting;
 
 pub use breakpoints::can_watch;
 pub use exceptions::exception_reply;
 pub use expressions::no_value_text;
 pub use places::{depth_of, is_set_there};
-pub use replies::{GANG, reply_to};
+pub use replies::reply_to;
 pub use stops::{stop_behind, stop_of};
 pub use texts::answer_text;
+pub use threads::{Threads, stop_thread, thread_reply};

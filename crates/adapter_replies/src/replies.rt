@@ -20,10 +20,9 @@ use crate::columns::front_of;
 use crate::completions::completions;
 use crate::exceptions::NO_FAULT;
 use crate::expressions::{expression_reply, shown_in};
-use crate::frames::frames;
+use crate::frames::{frames, frames_reply};
 use crate::locations::{goto_line, locations};
 use crate::opened::opened_by;
-use crate::pages::paged;
 use crate::places::{Place, Scope, depth_of, is_frame, reference_of};
 use crate::scopes::variables;
 use crate::stops::{goto_reason, stop_of};
@@ -37,10 +36,13 @@ use frame_expressions::ExpressionMachine;
 use std::alloc::{AllocError, Global};
 
 /// The number of the thread that is the gang.
-pub const GANG: u64 = 1;
+pub(crate) const GANG: u64 = 1;
 
 /// Why a request for a frame is refused.
 const NO_FRAME: &str = "no frame has this number now";
+
+/// Why a request to stand still is refused.
+const STANDS: &str = "the program stands still already: a move ends by itself";
 
 /// Why a variable is not set.
 const NOT_SET: &str = "only a variable of the top frame or of the file can be set";
@@ -133,6 +135,7 @@ pub fn reply_to<M: ExpressionMachine>(
         | Request::Terminate
         | Request::Disconnect => Ok(Reply::Done),
         Request::ExceptionInfo => refused(alloc, NO_FAULT),
+        Request::Pause => refused(alloc, STANDS),
         Request::Launch(_) | Request::Restart => refused(alloc, "the program is launched already"),
         Request::Unknown(name) => unknown(alloc, name),
     }
@@ -173,16 +176,7 @@ fn stack<M: RecordedMachine>(
     ensures { (s : Setting) (d : Debugger) → M.stands machine.now s d → IfOk result (AreFramesTold start levels (all_frames s.program (now s d).frames)) }
 {
     let all = frames(alloc, machine)?;
-    let total = all.len();
-    let page = Page {
-        start,
-        count: levels,
-        filter: Filter::All,
-    };
-    Ok(Reply::Frames {
-        frames: paged(alloc, all, page)?,
-        total,
-    })
+    frames_reply(alloc, all, start, levels)
 }
 
 /// The scopes of the frame of a number, or a refusal where there is no such frame.
@@ -340,11 +334,7 @@ fn told(text: String, reason: Option<StopReason>) -> Reply
     ensures { told_stop result ≡ Some (reason, string_bytes text) }
 {
     match reason {
-        Some(reason) => Reply::Moved(Stop {
-            reason,
-            thread: GANG,
-            text,
-        }),
+        Some(reason) => Reply::Moved(Stop { reason, text }),
         None => Reply::Refused(text),
     }
 }

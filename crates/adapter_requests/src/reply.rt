@@ -105,8 +105,6 @@ pub enum StopReason {
 #[derive(Drop)]
 pub struct Stop {
     pub reason: StopReason,
-    /// The thread that is shown first.
-    pub thread: u64,
     pub text: String,
 }
 

@@ -189,6 +189,8 @@ pub enum Request<'a> {
     Continue,
     StepBack,
     ReverseContinue,
+    /// The program is to stand still.
+    Pause,
     Restart,
     /// The program is to end; the editor is told that it has.
     Terminate,

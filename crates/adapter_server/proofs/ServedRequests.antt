@@ -104,6 +104,7 @@ module _ {M : Type 0} (stands : M → Setting → Debugger → Type 0) where
     alone request.Continue run = refl
     alone request.StepBack run = refl
     alone request.ReverseContinue run = refl
+    alone request.Pause run = refl
     alone request.Restart run = refl
     alone request.Terminate run = refl
     alone request.Disconnect run = refl

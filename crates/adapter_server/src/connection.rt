@@ -6,7 +6,6 @@ use adapter_frames::{FrameFault, FrameReader, HeadFault, write_frame};
 use adapter_messages::{
     Head, event_message, failure_message, output_body, reply_message, stop_body,
 };
-use adapter_replies::GANG;
 use adapter_requests::{Reply, StopReason};
 use serde_json::{Error as JsonError, Map, Value};
 use std::alloc::{AllocError, Global};
@@ -154,12 +153,17 @@ impl<R: Read, O: Write> Connection<R, O> {
         self.tell_with(name, body)
     }
 
-    /// Tells where and why the program stands still.
-    pub(crate) fn tell_stop(&mut self, reason: StopReason, text: &str) -> Result<(), Ended>
+    /// Tells why the program stands still, and which thread is shown first.
+    pub(crate) fn tell_stop(
+        &mut self,
+        reason: StopReason,
+        thread: u64,
+        text: &str,
+    ) -> Result<(), Ended>
         ensures stopped { OnOk result (self.new.stopped ≡ reason) }
         ensures messages { messages_of self.new ≡ messages_of self.old }
     {
-        let body = stop_body(self.alloc, reason, GANG, text)?;
+        let body = stop_body(self.alloc, reason, thread, text)?;
         self.tell_with("stopped", body)?;
         self.stopped = reason;
         Ok(())

@@ -4,6 +4,7 @@
 mod connection;
 mod launching;
 mod serving;
+mod threads;
 mod writing;
 
 pub use connection::{Connection, Ended};

@@ -6,9 +6,10 @@ ghost use Rattle.adapter_server.specs.Serving.{Answers, Asks, Begins, DoesOne, F
 
 use crate::connection::{Connection, Ended};
 use crate::launching::LaunchMessage;
+use crate::threads::{thread_of, told_aside};
 use crate::writing::console_lines;
 use adapter_messages::{Head, read_head, read_request};
-use adapter_replies::{answer_text, exception_reply, no_value_text, stop_behind};
+use adapter_replies::{answer_text, no_value_text, stop_behind};
 use adapter_requests::{Launch, Reply, Request, StopReason};
 use adapter_session::{
     Answered, Beginning, Terms, answer_request, restore_stops, stop_at_beginning,
@@ -173,14 +174,13 @@ impl<R: Read, O: Write> Connection<R, O> {
             self.restart = head.number;
             return Ok(Turn::Restarts);
         }
-        if let Request::ExceptionInfo = request {
-            let reply = exception_reply(self.alloc, self.stopped)?;
+        if let Some(reply) = told_aside(self.alloc, launch, session, self.stopped, request)? {
             self.reply(head, launch.program, &reply)?;
             return Ok(Turn::Goes);
         }
         let answered = ask(self.alloc, launch.program, terms, session, request)?;
         self.reply(head, launch.program, &answered.reply)?;
-        self.tell_of(request, &answered)?;
+        self.tell_of(launch, session, request, &answered)?;
         match request {
             Request::ConfigurationDone => {
                 self.begin(launch, terms, session)?;
@@ -196,7 +196,13 @@ impl<R: Read, O: Write> Connection<R, O> {
     }
 
     /// Tells of what a request leads to: texts that breakpoints wrote, a condition that has no value, and a stop, or the end.
-    fn tell_of(&mut self, request: &Request<'_>, answered: &Answered) -> Result<(), Ended>
+    fn tell_of<M: ExpressionMachine>(
+        &mut self,
+        launch: &Launch<'_>,
+        session: &Session<M>,
+        request: &Request<'_>,
+        answered: &Answered,
+    ) -> Result<(), Ended>
         ensures { messages_of self.new ≡ messages_of self.old }
     {
         self.tell_written(&answered.written)?;
@@ -205,7 +211,10 @@ impl<R: Read, O: Write> Connection<R, O> {
             return self.tell("terminated");
         }
         match stop_behind(request, &answered.reply, self.stopped) {
-            Some((reason, text)) => self.tell_stop(reason, text),
+            Some((reason, text)) => {
+                let thread = thread_of(launch, session, reason);
+                self.tell_stop(reason, thread, text)
+            }
             None => Ok(()),
         }
     }
@@ -262,12 +271,12 @@ impl<R: Read, O: Write> Connection<R, O> {
         ensures messages { messages_of self.new ≡ messages_of self.old }
     {
         if launch.stops_on_entry {
-            return self.tell_beginning(session, &Answer::Here, StopReason::Entry);
+            return self.tell_beginning(launch, session, &Answer::Here, StopReason::Entry);
         }
         let Beginning { first, written } = stop_at_beginning(self.alloc, terms, session);
         self.tell_begun(written)?;
         match first {
-            Some(counted) => self.tell_counted(session, &counted),
+            Some(counted) => self.tell_counted(launch, session, &counted),
             None => self.run_on(launch, terms, session),
         }
     }
@@ -290,12 +299,13 @@ impl<R: Read, O: Write> Connection<R, O> {
             session,
             &Request::Continue,
         )?;
-        self.tell_of(&Request::Continue, &answered)
+        self.tell_of(launch, session, &Request::Continue, &answered)
     }
 
     /// Tells that a breakpoint counts where the run begins.
     fn tell_counted<M: ExpressionMachine>(
         &mut self,
+        launch: &Launch<'_>,
         session: &Session<M>,
         counted: &CountedStop,
     ) -> Result<(), Ended>
@@ -304,12 +314,13 @@ impl<R: Read, O: Write> Connection<R, O> {
         self.tell_verdict(&counted.verdict)?;
         let number = counted.reason.number();
         let answer = Answer::AtBreakpoint(number);
-        self.tell_beginning(session, &answer, StopReason::Breakpoint(number))
+        self.tell_beginning(launch, session, &answer, StopReason::Breakpoint(number))
     }
 
     /// Tells that the program stands before its first step, and why.
     fn tell_beginning<M: ExpressionMachine>(
         &mut self,
+        launch: &Launch<'_>,
         session: &Session<M>,
         answer: &Answer<'_>,
         reason: StopReason,
@@ -317,7 +328,8 @@ impl<R: Read, O: Write> Connection<R, O> {
         ensures { messages_of self.new ≡ messages_of self.old }
     {
         let text = answer_text(self.alloc, answer, session.machine(), session.stops())?;
-        self.tell_stop(reason, text.as_str())
+        let thread = thread_of(launch, session, reason);
+        self.tell_stop(reason, thread, text.as_str())
     }
 }
 

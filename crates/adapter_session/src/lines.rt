@@ -142,6 +142,7 @@ fn request_lines(
         | Request::Scopes { .. }
         | Request::Variables { .. }
         | Request::Completions { .. }
+        | Request::Pause
         | Request::Restart
         | Request::Terminate
         | Request::Disconnect

@@ -15,10 +15,17 @@ local KEYS = {
   { "<F23>", "step_out" },
 }
 
-local options = { path = "rinddecade", width = 8, keys = true }
+local options = { path = "rinddecade", width = 8, lane_threads = false, keys = true }
 
 local function launch(name, more)
-  local common = { type = "rinddecade", request = "launch", name = name, program = "${file}", width = options.width }
+  local common = {
+    type = "rinddecade",
+    request = "launch",
+    name = name,
+    program = "${file}",
+    width = options.width,
+    laneThreads = options.lane_threads,
+  }
   return vim.tbl_extend("force", common, more)
 end
 

@@ -1,17 +1,3 @@
-use Rattle.std.proofs.Common.{◌≡◌, ◌∙◌, sym, ap, ap₂, length, map, Some, arith}
-use Rattle.std.proofs.lemmas.List.{length-map}
-use Rattle.adapter_requests.specs.declared.request.Filter.TheVariants as filter
-use Rattle.adapter_requests.specs.declared.request.Page.{Page}
-use Rattle.adapter_replies.specs.Frames.{asked_frames, frame_view}
-use Rattle.adapter_replies.proofs.PageRanges.{map_paged}
+use Rattle.std.proofs.Common.{subst}
+use Rattle.adapter_replies.specs.Told.{AreFramesTold}
 use Rattle.adapter_replies.proofs.replies.stack.Goals as goal
-
-pub returns : goal.returns
-returns g c s d st =
-    let page : Page = record { start = c.args.start; count = c.args.levels; filter = filter.All } in
-    let made = c.in_ok-all.all.items in
-    let all = c.in_ok-all.ensures s d st in
-    let count : c.len-total.result ≡ length made = omega (arith, c.len-total.ensures, c.in_ok-all.all.ok.0) in
-    ap₂ (λ told total. Some (told, total))
-    (ap (map frame_view) c.in_ok-paged.ensures ∙ map_paged frame_view page made ∙ ap (asked_frames c.args.start c.args.levels) all)
-    (count ∙ sym (length-map made frame_view) ∙ ap length all)
