@@ -107,7 +107,7 @@ def pieces_of_stacks(client, examples):
         client.begin()
         same([stack(client, 5, startFrame=1, levels=1), stack(client, 5, startFrame=2), stack(client, 4, startFrame=1)], [in_deeper(8, 5)[1:2], in_deeper(8, 5)[2:], in_deeper(8, 4)[1:]])
         same([client.ask("stackTrace", threadId=lane + 1)["totalFrames"] for lane in range(8)], [1, 3, 2, 3, 2, 3, 2, 3])
-        same((client.value("k", 3), client.value("k", 2)), (". 1 . 3 . 5 . 7", ". 1 . 3 . 5 . 7"))
+        same((client.value("k * -3", 3), client.value("k * -3", 2), client.value("x - 10", 1)), (". -3 . -9 . -15 . -21", ". -3 . -9 . -15 . -21", ". -9 -8 -7 -6 -5 -4 -3"))
         same(client.variables(client.scopes(2)[1])["k"]["value"], client.value("k", 2))
         client.end()
 

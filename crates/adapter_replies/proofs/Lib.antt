@@ -2,8 +2,8 @@ pub mod ActiveLanes
 pub mod CallFrames
 pub mod ColumnUnits
 pub mod Completing
-pub mod LaneThreads
 pub mod LaneValues
+pub mod LowestLane
 pub mod Numbered
 pub mod Opening
 pub mod PageRanges

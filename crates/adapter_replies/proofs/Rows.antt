@@ -223,7 +223,7 @@ threads : fixed_reply request.Threads ≡ None
 threads = refl
 
 frames_differ : (thread start levels : Option ℕ) → fixed_reply (request.StackTrace thread start levels) ≡ None
-frames_differ start levels = refl
+frames_differ thread start levels = refl
 
 no_move : (text : Bytes) → IsMoveTold None text reply.Done
 no_move text = refl

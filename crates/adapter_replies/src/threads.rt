@@ -204,7 +204,7 @@ fn own_frame<M: RecordedMachine>(
     frame: Frame,
 ) -> Result<Frame, AllocError>
     ensures { (s : Setting) (d : Debugger) → M.stands machine.now s d
-        → IfOk result (λ own. frame_view own ≡ spec.own_frame (now s d) lane (frame_view frame.entry)) }
+        → IfOk result (λ own. frame_view own ≡ spec.own_frame (now s d) lane (frame_view frame)) }
 {
     let mut own = frame;
     let marked = mark(waits(standing(machine, own.depth), lane));
@@ -237,7 +237,7 @@ fn lowest_lane(position: Option<Position<'_>>) -> usize
 /// The lowest active lane of a position, or how many lanes there are where none is active.
 fn lowest_of(position: Position<'_>) -> usize
     requires { IsGangWidth position.width }
-    ensures { result ≡ lowest (lanes_of position.width position.lanes) }
+    ensures { result ≡ lowest (lanes_of position.entry.width position.entry.lanes) }
 {
     for lane in 0..position.width {
         if position.lanes.has::<WIDEST>(lane) {
