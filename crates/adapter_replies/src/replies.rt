@@ -28,7 +28,7 @@ use crate::scopes::variables;
 use crate::stops::{goto_reason, stop_of};
 use crate::targets::found;
 use crate::texts::{answer_text, value_text};
-use adapter_requests::{Context, Filter, Page, Reply, Request, Scopes, Stop, StopReason, Thread};
+use adapter_requests::{Context, Page, Reply, Request, Scopes, Stop, StopReason, Thread};
 use debug_answers::{Answer, NumberedStop, Refusal};
 use debug_commands::read_command;
 use debug_traits::{FramedMachine, RecordedMachine};
