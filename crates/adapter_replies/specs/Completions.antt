@@ -10,6 +10,7 @@ use Rattle.adapter_replies.specs.declared.places.Place.TheVariants as place
 use Rattle.adapter_replies.specs.declared.places.Scope.{Scope}
 use Rattle.adapter_replies.specs.declared.places.Scope.TheVariants.{Arguments, Locals}
 use Rattle.adapter_replies.specs.Columns.{utf16_length}
+use Rattle.adapter_replies.specs.declared.forms.Form.TheVariants as form
 use Rattle.adapter_replies.specs.Variables.{ToldVariable, scope_list, told_each}
 
 -- a name in place of so many units from a column on; columns count from 1
@@ -57,10 +58,10 @@ named front told = completed front (name_length front) (names_of told)
 
 -- the local variables of the frame at a depth, or its parameters, and the variables of the file
 abbrev pub of_frame : Setting → Debugger → Scope → (depth : ℕ) → (front : Bytes) → List ToldCompletion
-of_frame s d scope deep front = named front (told_each s d deep (place.Parts scope deep) 0 (scope_list s d scope deep))
+of_frame s d scope deep front = named front (told_each form.Value s d deep (place.Parts scope deep) 0 (scope_list s d scope deep))
 
 abbrev pub of_file : Setting → Debugger → (front : Bytes) → List ToldCompletion
-of_file s d front = named front (told_each s d (depth (now s d)) place.OfFile 0 (take 1000 (file_variables s)))
+of_file s d front = named front (told_each form.Value s d (depth (now s d)) place.OfFile 0 (take 1000 (file_variables s)))
 
 -- commands in place of the whole text; then, in place of its last name, the local variables, the parameters and the variables of the file that a name finds
 abbrev pub completions : Setting → Debugger → (depth : ℕ) → (front : Bytes) → List ToldCompletion

@@ -1,12 +1,14 @@
 -- What is asked for in the console that is no command.
-use Rattle.std.specs.Prelude.{Bool, ◌||◌, ◌++◌, List, [], ◌∷◌, codes, flat_map, nat_eq, if◌then◌else◌}
+use Rattle.std.specs.Prelude.{ℕ, Bool, ◌||◌, ◌++◌, List, [], ◌∷◌, codes, flat_map, nat_eq, if◌then◌else◌}
 use Rattle.std.specs.List.{starts_with}
 use Rattle.gang_model.specs.Source.Names.{same_text}
-use Rattle.gang_model.specs.Texts.Text.{Bytes}
+use Rattle.gang_model.specs.Debugger.Debugger.{Debugger, Setting, now}
+use Rattle.gang_model.specs.Texts.Text.{Bytes, locals_lines, or_none}
+use Rattle.debug_traits.specs.Frames.{scope_at, state_at}
 use Rattle.adapter_requests.specs.declared.request.Context.{Context}
 use Rattle.adapter_requests.specs.declared.request.Context.TheVariants.{Console}
 use Rattle.adapter_replies.specs.declared.console.Asked.{Asked}
-use Rattle.adapter_replies.specs.declared.console.Asked.TheVariants.{Help, Parameters, Value}
+use Rattle.adapter_replies.specs.declared.console.Asked.TheVariants.{Help, Locals, Parameters, Value}
 use Rattle.adapter_replies.specs.Shown.{shown_text}
 use Rattle.adapter_replies.specs.Variables.{ToldVariable}
 
@@ -14,9 +16,11 @@ use Rattle.adapter_replies.specs.Variables.{ToldVariable}
 abbrev pub is_help : (text : Bytes) → Bool
 is_help text = same_text text (codes "help") || starts_with nat_eq text (codes "help ")
 
--- what a text asks for: in the console help or the parameters, and else the value of an expression
+-- what a text asks for: in the console help, the parameters or the local variables, and else the value of an expression
 abbrev pub asked_in : Context → (text : Bytes) → Asked
-asked_in Console text = if is_help text then Help else (if same_text text (codes "info args") then Parameters else Value)
+asked_in Console text =
+    if is_help text then Help
+    else (if same_text text (codes "info args") then Parameters else (if same_text text (codes "info locals") then Locals else Value))
 asked_in other text = Value
 
 -- what can be typed in the console
@@ -37,3 +41,7 @@ parameter_line v = v.name ++ (codes " = " ++ (v.value ++ codes "\n"))
 abbrev pub parameters_text : List ToldVariable → Bytes
 parameters_text [] = codes "no parameters"
 parameters_text (v ∷ variables) = shown_text (flat_map parameter_line (v ∷ variables))
+
+-- the local variables of the frame at a depth, as the debugger lists those of the top frame
+abbrev pub locals_text : Setting → Debugger → (depth : ℕ) → Bytes
+locals_text s d deep = shown_text (or_none (locals_lines (state_at deep (now s d)) (scope_at s.program deep (now s d))))

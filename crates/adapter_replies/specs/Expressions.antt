@@ -18,17 +18,18 @@ use Rattle.frame_values.specs.declared.values.NoValue.{NoValue}
 use Rattle.frame_values.specs.declared.values.NoValue.TheVariants as no
 use Rattle.adapter_requests.specs.declared.request.Context.{Context}
 use Rattle.adapter_requests.specs.declared.request.Context.TheVariants.{Hover}
+use Rattle.adapter_replies.specs.declared.forms.Form.{Form}
 use Rattle.adapter_replies.specs.Variables.{values}
 
 -- ---- a value
 
 -- the value of a lane, or a point where it waits
-abbrev pub lane_text : IntType → Lanes → List ℕ → (lane : ℕ) → Bytes
-lane_text type lanes words lane = if has lanes lane then values type (slice_index words lane ∷ []) else codes "."
+abbrev pub lane_text : Form → IntType → Lanes → List ℕ → (lane : ℕ) → Bytes
+lane_text form type lanes words lane = if has lanes lane then values form type (slice_index words lane ∷ []) else codes "."
 
 -- the value of each lane of so many, lane 0 first, with blanks between
-abbrev pub lanes_text : IntType → Lanes → List ℕ → (width : ℕ) → Bytes
-lanes_text type lanes words width = join_by (lane_text type lanes words) (codes " ") (range_with_len 0 width)
+abbrev pub lanes_text : Form → IntType → Lanes → List ℕ → (width : ℕ) → Bytes
+lanes_text form type lanes words width = join_by (lane_text form type lanes words) (codes " ") (range_with_len 0 width)
 
 -- the blank before each lane but the first
 abbrev pub gap : (lane : ℕ) → Bytes
@@ -36,16 +37,16 @@ gap zero = []
 gap (suc n) = codes " "
 
 -- the one value that each active lane has, or a point where all wait
-abbrev pub one_text : IntType → Lanes → List ℕ → Bytes
-one_text type lanes words = if no_lane lanes then codes "." else lane_text type lanes words (lowest lanes)
+abbrev pub one_text : Form → IntType → Lanes → List ℕ → Bytes
+one_text form type lanes words = if no_lane lanes then codes "." else lane_text form type lanes words (lowest lanes)
 
-abbrev pub text_by_rate : Rate → IntType → Lanes → List ℕ → (width : ℕ) → Bytes
-text_by_rate Uniform type lanes words width = one_text type lanes words
-text_by_rate Varying type lanes words width = lanes_text type lanes words width
+abbrev pub text_by_rate : Rate → Form → IntType → Lanes → List ℕ → (width : ℕ) → Bytes
+text_by_rate Uniform form type lanes words width = one_text form type lanes words
+text_by_rate Varying form type lanes words width = lanes_text form type lanes words width
 
 -- the value of an expression
-abbrev pub expression_text : ExpressionValue → Bytes
-expression_text found = text_by_rate found.rate found.value_type (lanes_of found.lanes.width found.lanes.lanes) found.lanes.words found.lanes.width
+abbrev pub expression_text : Form → ExpressionValue → Bytes
+expression_text form found = text_by_rate found.rate form found.value_type (lanes_of found.lanes.width found.lanes.lanes) found.lanes.words found.lanes.width
 
 -- a text that is longer than 200 bytes without the rest, for which three points stand
 abbrev pub cut : Bytes → Bytes

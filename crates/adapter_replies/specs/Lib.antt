@@ -1,9 +1,11 @@
+pub mod Asking
 pub mod Breakpoints
 pub mod Columns
 pub mod Completions
 pub mod Console
 pub mod Exceptions
 pub mod Expressions
+pub mod Forms
 pub mod Frames
 pub mod Locations
 pub mod Opened

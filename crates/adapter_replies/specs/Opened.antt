@@ -11,6 +11,7 @@ use Rattle.adapter_replies.specs.declared.places.Place.{Place}
 use Rattle.adapter_replies.specs.declared.places.Place.TheVariants as place
 use Rattle.adapter_replies.specs.declared.places.Scope.{Scope}
 use Rattle.adapter_replies.specs.declared.places.Scope.TheVariants.{Locals, Arguments}
+use Rattle.adapter_replies.specs.declared.forms.Form.TheVariants as form
 use Rattle.adapter_replies.specs.Variables.{ToldVariable, scope_list, told_each}
 
 -- where the lanes or elements are of the first of some variables that has a name
@@ -19,10 +20,10 @@ parts_named name variables = option_map (λ v. v.parts) (find (λ v. same_text v
 
 -- the same among the local variables or the parameters of the frame at a depth, and among the variables of the file
 abbrev pub parts_in_frame : Setting → Debugger → Scope → (depth : ℕ) → (name : Bytes) → Option Place
-parts_in_frame s d scope deep name = parts_named name (told_each s d deep (place.Parts scope deep) 0 (scope_list s d scope deep))
+parts_in_frame s d scope deep name = parts_named name (told_each form.Value s d deep (place.Parts scope deep) 0 (scope_list s d scope deep))
 
 abbrev pub parts_in_file : Setting → Debugger → (name : Bytes) → Option Place
-parts_in_file s d name = parts_named name (told_each s d (depth (now s d)) place.OfFile 0 (take 1000 (file_variables s)))
+parts_in_file s d name = parts_named name (told_each form.Value s d (depth (now s d)) place.OfFile 0 (take 1000 (file_variables s)))
 
 -- the first place that is there
 abbrev pub first_place : (local parameter of_file : Option Place) → Place

@@ -28,8 +28,11 @@ use Rattle.adapter_replies.specs.Exceptions.{no_fault}
 use Rattle.adapter_replies.specs.Breakpoints.{IsWatchableTold, is_watchable, told_breakpoint, told_function, told_watch}
 use Rattle.adapter_replies.specs.Columns.{front}
 use Rattle.adapter_replies.specs.Completions.{ToldCompletion, completion_view, completions, frame_or}
-use Rattle.adapter_replies.specs.Console.{asked_in, help_text, parameters_text}
+use Rattle.adapter_replies.specs.Asking.{Asking, asking_of}
+use Rattle.adapter_replies.specs.Console.{help_text, locals_text, parameters_text}
 use Rattle.adapter_replies.specs.Expressions.{expression_text, is_memory, no_value_text, shown_in}
+use Rattle.adapter_replies.specs.declared.forms.Form.{Form}
+use Rattle.adapter_replies.specs.Forms.{form_if}
 use Rattle.adapter_replies.specs.Frames.{ToldFrame, all_frames, asked_frames, frame_view}
 use Rattle.adapter_replies.specs.Locations.{goto_line, told_places}
 use Rattle.adapter_replies.specs.Opened.{opened, opened_by}
@@ -121,10 +124,10 @@ told_place (reply.Evaluated text reason reference) = place_of reference
 told_place other = place.Nothing
 
 -- the value of an expression where the frame at a depth stands
-pub record IsValueShown (s : Setting) (d : Debugger) (deep : ℕ) (context : Context) (text : Bytes) (told : Reply) : Type 0 where
+pub record IsValueShown (s : Setting) (d : Debugger) (deep : ℕ) (asking : Asking) (told : Reply) : Type 0 where
   pub found : ExpressionValue
-  pub is : IsValueOf text s d deep found
-  pub shown : told_value told ≡ Some (None, shown_in context (expression_text found))
+  pub is : IsValueOf asking.text s d deep found
+  pub shown : told_value told ≡ Some (None, shown_in asking.context (expression_text asking.form found))
   pub closed : told_place told ≡ place.Nothing
 
 -- why a text has no value where the frame at a depth stands; that there is no memory for it is told otherwise
@@ -138,39 +141,40 @@ pub record IsNoValueShown (s : Setting) (d : Debugger) (deep : ℕ) (text : Byte
 abbrev pub IsTold : Bytes → Reply → Type 0
 IsTold text told = (told_value told ≡ Some (None, text)) × (told_place told ≡ place.Nothing)
 
--- what is told of a text that names no variable, by what it asks for: what can be typed, the parameters of the frame at a depth, or the value of the expression
--- that it spells
-abbrev pub IsAskedTold : Asked → Setting → Debugger → (depth : ℕ) → Context → (text : Bytes) → Reply → Type 0
-IsAskedTold asked.Help s d deep context text told = IsTold help_text told
-IsAskedTold asked.Parameters s d deep context text told = IsTold (parameters_text (told_each s d deep (place.Parts Arguments deep) 0 (listed_parameters_at s d deep))) told
-IsAskedTold asked.Value s d deep context text told = IsValueShown s d deep context text told ⊎ IsNoValueShown s d deep text told
+-- what is told of a text that names no variable, by what it asks for: what can be typed, the parameters or the local variables of the frame at a depth, or the
+-- value of the expression that it spells
+abbrev pub IsAskedTold : Asked → Setting → Debugger → (depth : ℕ) → Asking → Reply → Type 0
+IsAskedTold asked.Help s d deep asking told = IsTold help_text told
+IsAskedTold asked.Parameters s d deep asking told = IsTold (parameters_text (told_each asking.form s d deep (place.Parts Arguments deep) 0 (listed_parameters_at s d deep))) told
+IsAskedTold asked.Locals s d deep asking told = IsTold (locals_text s d deep) told
+IsAskedTold asked.Value s d deep asking told = IsValueShown s d deep asking told ⊎ IsNoValueShown s d deep asking.text told
 
-abbrev pub IsExpressionTold : Setting → Debugger → (depth : ℕ) → Context → (text : Bytes) → Reply → Type 0
-IsExpressionTold s d deep context text told = IsAskedTold (asked_in context text) s d deep context text told
+abbrev pub IsExpressionTold : Setting → Debugger → (depth : ℕ) → Asking → Reply → Type 0
+IsExpressionTold s d deep asking told = IsAskedTold asking.asked s d deep asking told
 
 -- what is told of a target in the frame at a depth whose name finds a variable, by why it cannot be shown, if it cannot: its values, and what opens; past the
 -- end a refusal; and where a variable has no parts the text is an expression
-abbrev pub IsPartTold : Setting → Debugger → (depth : ℕ) → Context → (text : Bytes) → Target → Variable → Option Refusal → Reply → Type 0
-IsPartTold s d deep context text target v None told =
-    (told_value told ≡ Some (None, shown_in context (values v.type (part_shown target.at (words_at s d deep v))))) × (told_place told ≡ opened s d deep target)
-IsPartTold s d deep context text target v (Some OutOfRange) told = told_stop told ≡ Some (None, codes "C8 OutOfRange")
-IsPartTold s d deep context text target v (Some other) told = IsExpressionTold s d deep context text told
+abbrev pub IsPartTold : Setting → Debugger → (depth : ℕ) → Asking → Target → Variable → Option Refusal → Reply → Type 0
+IsPartTold s d deep asking target v None told =
+    (told_value told ≡ Some (None, shown_in asking.context (values asking.form v.type (part_shown target.at (words_at s d deep v))))) × (told_place told ≡ opened s d deep target)
+IsPartTold s d deep asking target v (Some OutOfRange) told = told_stop told ≡ Some (None, codes "C8 OutOfRange")
+IsPartTold s d deep asking target v (Some other) told = IsExpressionTold s d deep asking told
 
 -- the same by the variable that its name finds there; where it finds none the text is an expression
-abbrev pub IsFoundTold : Setting → Debugger → (depth : ℕ) → Context → (text : Bytes) → Target → Option Variable → Reply → Type 0
-IsFoundTold s d deep context text target None told = IsExpressionTold s d deep context text told
-IsFoundTold s d deep context text target (Some v) told = IsPartTold s d deep context text target v (bad_part true target.at v.is_array v.rate (length (words_at s d deep v))) told
+abbrev pub IsFoundTold : Setting → Debugger → (depth : ℕ) → Asking → Target → Option Variable → Reply → Type 0
+IsFoundTold s d deep asking target None told = IsExpressionTold s d deep asking told
+IsFoundTold s d deep asking target (Some v) told = IsPartTold s d deep asking target v (bad_part true target.at v.is_array v.rate (length (words_at s d deep v))) told
 
 -- what is told of a text, by what `print` takes it for; where that is none the text is an expression
-abbrev pub IsTargetTold : Setting → Debugger → (depth : ℕ) → Context → (text : Bytes) → Option Target → Reply → Type 0
-IsTargetTold s d deep context text None told = IsExpressionTold s d deep context text told
-IsTargetTold s d deep context text (Some target) told = IsFoundTold s d deep context text target (found_at s.program deep (now s d) target.name) told
+abbrev pub IsTargetTold : Setting → Debugger → (depth : ℕ) → Asking → Option Target → Reply → Type 0
+IsTargetTold s d deep asking None told = IsExpressionTold s d deep asking told
+IsTargetTold s d deep asking (Some target) told = IsFoundTold s d deep asking target (found_at s.program deep (now s d) target.name) told
 
 -- what is told of a text in the frame of a number, if there is one: the values of the variable, the lane or the element that it names there, or the value of
 -- the expression that it spells
-abbrev pub IsNameToldIn : (is_frame : Bool) → Setting → Debugger → (depth : ℕ) → Context → (text : Bytes) → Reply → Type 0
-IsNameToldIn false s d deep context text told = IsNoFrame told
-IsNameToldIn true s d deep context text told = IsTargetTold s d deep context text (target_in text) told
+abbrev pub IsNameToldIn : (is_frame : Bool) → Setting → Debugger → (depth : ℕ) → Asking → Reply → Type 0
+IsNameToldIn false s d deep asking told = IsNoFrame told
+IsNameToldIn true s d deep asking told = IsTargetTold s d deep asking (target_in asking.text) told
 
 -- whether an answer says that a text names no variable
 abbrev pub is_unnamed : Answer → Bool
@@ -187,24 +191,24 @@ is_line other text = false
 abbrev pub is_expression : Context → (text : Bytes) → Answer → Bool
 is_expression context text given = is_unnamed given && not (is_line context text)
 
--- what is told of a text for which `print` was done in the top frame: the expression, where it is one; else what the answer shows can be opened
-abbrev pub IsPrinted : (is_expression : Bool) → Setting → Debugger → Context → (text : Bytes) → Answer → Reply → Type 0
-IsPrinted true s d context text given told = IsExpressionTold s d (depth (now s d)) context text told
-IsPrinted false s d context text given told = told_place told ≡ opened_by s d given
+-- what is told of a text for which `print` was done in the top frame: what it asks for there, where it is an expression; else what the answer shows can be opened
+abbrev pub IsPrinted : (is_expression : Bool) → Setting → Debugger → Asking → Answer → Reply → Type 0
+IsPrinted true s d asking given told = IsTargetTold s d (depth (now s d)) asking (target_in asking.text) told
+IsPrinted false s d asking given told = told_place told ≡ opened_by s d given
 
 -- what is told of an expression in the frame where it stands; for one in another frame than the top one no command was done
-abbrev pub IsLookedUp : Setting → Debugger → Option Answer → (frame : Option ℕ) → Context → (text : Bytes) → Reply → Type 0
-IsLookedUp s d (Some given) frame context text told = IsPrinted (is_expression context text given) s d context text given told
-IsLookedUp s d None None context text told = told ≡ reply.Done
-IsLookedUp s d None (Some frame) context text told = IsNameToldIn (is_frame (depth (now s d)) frame) s d frame context text told
+abbrev pub IsLookedUp : Setting → Debugger → Option Answer → (frame : Option ℕ) → Context → (text : Bytes) → (is_hexadecimal : Bool) → Reply → Type 0
+IsLookedUp s d (Some given) frame context text is_hexadecimal told = IsPrinted (is_expression context text given) s d (asking_of context text is_hexadecimal) given told
+IsLookedUp s d None None context text is_hexadecimal told = told ≡ reply.Done
+IsLookedUp s d None (Some frame) context text is_hexadecimal told = IsNameToldIn (is_frame (depth (now s d)) frame) s d frame (asking_of context text is_hexadecimal) told
 
 -- what a request is told where a machine stands for a debugger
 abbrev pub IsToldOf : Setting → Debugger → (last : Option Answer) → Request → Reply → Type 0
 IsToldOf s d last request.Threads told = AreThreadsTold told
 IsToldOf s d last (request.StackTrace thread start levels) told = AreFramesTold start levels (all_frames s.program (now s d).frames) told
 IsToldOf s d last (request.Scopes frame) told = AreScopesTold (is_frame (depth (now s d)) frame) frame told
-IsToldOf s d last (request.Variables reference page is_hexadecimal) told = AreVariablesTold (told_now page s d reference) told
-IsToldOf s d last (request.Evaluate expression frame context is_hexadecimal) told = IsLookedUp s d last frame context expression.now told
+IsToldOf s d last (request.Variables reference page is_hexadecimal) told = AreVariablesTold (told_now (form_if is_hexadecimal) page s d reference) told
+IsToldOf s d last (request.Evaluate expression frame context is_hexadecimal) told = IsLookedUp s d last frame context expression.now is_hexadecimal told
 IsToldOf s d last (request.DataBreakpointInfo name) told = IsWatchableTold (is_watchable s d name.now) name.now told
 IsToldOf s d last (request.Completions text column frame) told = AreCompletionsToldIn s d (frame_or (depth (now s d)) frame) (front text.now column) told
 IsToldOf s d last other told = Unit {0}
@@ -295,24 +299,33 @@ abbrev pub IsValueTold : Context → Answer → (text values : Bytes) → Reply 
 IsValueTold context (answer.Shows target shown) text values told = told_value told ≡ Some (None, shown_in context values)
 IsValueTold context given text values told = IsLineTold given text told
 
+-- whether the answer to a line is told as it is: in the console, where no hexadecimal numbers are asked for
+abbrev pub is_told_whole : Context → (is_hexadecimal : Bool) → Bool
+is_told_whole Console is_hexadecimal = not is_hexadecimal
+is_told_whole other is_hexadecimal = false
+
+-- an answer is told as it is, or the values that it shows
+abbrev pub IsAnswerTold : (is_whole : Bool) → Context → Answer → (text values : Bytes) → Reply → Type 0
+IsAnswerTold true context given text values told = IsLineTold given text told
+IsAnswerTold false context given text values told = IsValueTold context given text values told
+
 -- what a request to evaluate is told by the answer to its line, but for an expression
-abbrev pub IsAnsweredIn : (is_expression : Bool) → Context → Answer → (text values : Bytes) → Reply → Type 0
-IsAnsweredIn true context given text values told = Unit {0}
-IsAnsweredIn false Console given text values told = IsLineTold given text told
-IsAnsweredIn false context given text values told = IsValueTold context given text values told
+abbrev pub IsAnsweredIn : (is_expression : Bool) → Context → (is_hexadecimal : Bool) → Answer → (text values : Bytes) → Reply → Type 0
+IsAnsweredIn true context is_hexadecimal given text values told = Unit {0}
+IsAnsweredIn false context is_hexadecimal given text values told = IsAnswerTold (is_told_whole context is_hexadecimal) context given text values told
 
 -- what a request to evaluate is told by an answer
-abbrev pub IsEvaluated : Context → (expression : Bytes) → Option Answer → (text values : Bytes) → Reply → Type 0
-IsEvaluated context expression None text values told = Unit {0}
-IsEvaluated context expression (Some given) text values told = IsAnsweredIn (is_expression context expression given) context given text values told
+abbrev pub IsEvaluated : Context → (expression : Bytes) → (is_hexadecimal : Bool) → Option Answer → (text values : Bytes) → Reply → Type 0
+IsEvaluated context expression is_hexadecimal None text values told = Unit {0}
+IsEvaluated context expression is_hexadecimal (Some given) text values told = IsAnsweredIn (is_expression context expression given) context is_hexadecimal given text values told
 
--- the values that an answer shows
-abbrev pub shown_values : State → model.Answer → Bytes
-shown_values state (model.Shows target v) = values v.type (target_words state target v)
-shown_values state other = []
+-- the values that an answer shows, in a form
+abbrev pub shown_values : State → model.Answer → Form → Bytes
+shown_values state (model.Shows target v) form = values form v.type (target_words state target v)
+shown_values state other form = []
 
--- what a request is told by the last answer, with its text and the values that it shows
-abbrev pub IsAnswered : Option Answer → (text values : Bytes) → Request → Reply → Type 0
+-- what a request is told by the last answer, with its text and the values that it shows in a form
+abbrev pub IsAnswered : Option Answer → (text : Bytes) → (values : Form → Bytes) → Request → Reply → Type 0
 IsAnswered last text values request.Next told = IsMoveTold last text told
 IsAnswered last text values request.StepIn told = IsMoveTold last text told
 IsAnswered last text values request.StepOut told = IsMoveTold last text told
@@ -320,7 +333,7 @@ IsAnswered last text values request.Continue told = IsMoveTold last text told
 IsAnswered last text values request.StepBack told = IsMoveTold last text told
 IsAnswered last text values request.ReverseContinue told = IsMoveTold last text told
 IsAnswered last text values (request.Goto line way) told = IsGotoTold last text told
-IsAnswered last text values (request.SetVariable reference name value is_hexadecimal) told = IsSetTold last text values told
-IsAnswered last text values (request.SetExpression expression value frame is_hexadecimal) told = IsSetTold last text values told
-IsAnswered last text values (request.Evaluate expression frame context is_hexadecimal) told = IsEvaluated context expression.now last text values told
+IsAnswered last text values (request.SetVariable reference name value is_hexadecimal) told = IsSetTold last text (values (form_if is_hexadecimal)) told
+IsAnswered last text values (request.SetExpression expression value frame is_hexadecimal) told = IsSetTold last text (values (form_if is_hexadecimal)) told
+IsAnswered last text values (request.Evaluate expression frame context is_hexadecimal) told = IsEvaluated context expression.now is_hexadecimal last text (values (form_if is_hexadecimal)) told
 IsAnswered last text values other told = Unit {0}

@@ -1,5 +1,5 @@
 -- The variables that an editor is told.
-use Rattle.std.specs.Prelude.{ℕ, suc, Bool, true, false, ◌+◌, ◌-◌, ◌*◌, ◌/◌, not, ◌&&◌, ◌||◌, List, [], ◌∷◌, ◌++◌, codes, decimal, length, map, min, nat_le, nat_lt, slice_get, string_bytes, take, Option, Some, None, if◌then◌else◌}
+use Rattle.std.specs.Prelude.{ℕ, suc, Bool, true, false, ◌+◌, ◌-◌, ◌*◌, ◌/◌, ◌==◌, not, ◌&&◌, ◌||◌, List, [], ◌∷◌, ◌++◌, codes, decimal, length, map, min, nat_le, nat_lt, slice_get, string_bytes, take, Option, Some, None, if◌then◌else◌}
 use Rattle.std.specs.List.{join_by, range_with_len}
 use Rattle.std.specs.Str.Lossy.{utf8_lossy}
 use Rattle.gang_types.specs.Lanes.{Lanes}
@@ -10,10 +10,11 @@ use Rattle.gang_types.specs.declared.types.Rate.TheVariants as rate
 use Rattle.gang_model.specs.Types.Tree as model
 use Rattle.gang_model.specs.Running.State.{same_id}
 use Rattle.gang_model.specs.Debugger.Debugger.{Debugger, Setting, depth, now, part_shown, shown_words}
-use Rattle.gang_model.specs.Texts.Text.{Bytes, index_text, word_text}
+use Rattle.gang_model.specs.Texts.Text.{Bytes, index_text}
 use Rattle.debug_traits.specs.declared.machine.NamedVariable.{NamedVariable}
 use Rattle.debug_traits.specs.Frames.{ShowsNamedAt, found_at, listed_at, listed_parameters_at, state_at}
 use Rattle.debug_traits.specs.Machines.{file_variables}
+use Rattle.value_digits.specs.Words.{form_text}
 use Rattle.adapter_requests.specs.declared.reply.Variable.{Variable}
 use Rattle.adapter_requests.specs.declared.reply.VariableKind.{VariableKind}
 use Rattle.adapter_requests.specs.declared.reply.VariableKind.TheVariants as kind
@@ -22,22 +23,26 @@ use Rattle.adapter_replies.specs.declared.places.Place.{Place}
 use Rattle.adapter_replies.specs.declared.places.Place.TheVariants as place
 use Rattle.adapter_replies.specs.declared.places.Scope.{Scope}
 use Rattle.adapter_replies.specs.declared.places.Scope.TheVariants.{Locals, Arguments}
+use Rattle.adapter_replies.specs.declared.forms.Form.{Form}
+use Rattle.adapter_replies.specs.Forms.{digits_for}
 use Rattle.adapter_replies.specs.Pages.{asks_places, indexed_children, named_children, paged}
 use Rattle.adapter_replies.specs.References.{place_now, place_of, range_of, within}
 use Rattle.adapter_replies.specs.Waiting.{shown_lanes, waits}
 
--- a variable, a lane, an element or a range: its name, the text of its values and that of its type, what it is, whether it is a constant, and what its reference stands for
+-- a variable, a lane, an element or a range: its name, the text of its values and that of its type, what it is, whether it is a constant, whether it is only
+-- looked at, and what its reference stands for
 pub record ToldVariable : Type 0 where
   pub name : Bytes
   pub value : Bytes
   pub type : Bytes
   pub kind : VariableKind
   pub is_constant : Bool
+  pub is_read_only : Bool
   pub parts : Place
 
 -- a variable of a reply
 abbrev pub variable_view : Variable → ToldVariable
-variable_view v = record { name = string_bytes v.name; value = string_bytes v.value; type = string_bytes v.type_name; kind = v.kind; is_constant = v.is_constant; parts = place_of v.reference }
+variable_view v = record { name = string_bytes v.name; value = string_bytes v.value; type = string_bytes v.type_name; kind = v.kind; is_constant = v.is_constant; is_read_only = v.is_read_only; parts = place_of v.reference }
 
 -- ---- texts
 
@@ -63,13 +68,13 @@ type_text rate type true count = rate_name rate ++ codes " " ++ type_name type +
 type_text rate type false count = rate_name rate ++ codes " " ++ type_name type
 
 -- the values of words, with blanks between
-abbrev pub values : IntType → List ℕ → Bytes
-values type words = join_by (word_text type) (codes " ") words
+abbrev pub values : Form → IntType → List ℕ → Bytes
+values form type words = join_by (form_text (digits_for form type) type) (codes " ") words
 
 -- the values of a scalar, or how many elements an array has
-abbrev pub whole_text : IntType → (is_array : Bool) → List ℕ → Bytes
-whole_text type true words = decimal (length words) ++ codes " elements"
-whole_text type false words = values type words
+abbrev pub whole_text : Form → IntType → (is_array : Bool) → List ℕ → Bytes
+whole_text form type true words = decimal (length words) ++ codes " elements"
+whole_text form type false words = values form type words
 
 -- ---- variables
 
@@ -87,13 +92,14 @@ whole_kind true count = kind.Array count
 whole_kind false count = kind.Plain
 
 -- a variable with its words, whose lanes or elements are at a place
-abbrev pub told_whole : model.Variable → List ℕ → Place → ToldVariable
-told_whole v words parts = record {
+abbrev pub told_whole : Form → (is_read_only : Bool) → model.Variable → List ℕ → Place → ToldVariable
+told_whole form is_read_only v words parts = record {
   name = utf8_lossy v.name;
-  value = whole_text v.type v.is_array words;
+  value = whole_text form v.type v.is_array words;
   type = type_text v.rate v.type v.is_array (length words);
   kind = whole_kind v.is_array (length words);
   is_constant = v.is_constant;
+  is_read_only = is_read_only;
   parts = if has_parts v then parts else place.Nothing;
 }
 
@@ -107,32 +113,34 @@ part_kind true = kind.Waits
 part_kind false = kind.Plain
 
 -- the lane or the element at an index, where these lanes are active
-abbrev pub told_part : Lanes → model.Variable → List ℕ → ℕ → ToldVariable
-told_part lanes v words index = record {
+abbrev pub told_part : Form → (is_read_only : Bool) → Lanes → model.Variable → List ℕ → ℕ → ToldVariable
+told_part form is_read_only lanes v words index = record {
   name = utf8_lossy v.name ++ index_text (Some index);
-  value = values v.type (part_shown (Some index) words);
+  value = values form v.type (part_shown (Some index) words);
   type = type_name v.type;
   kind = part_kind (waits_at lanes v.is_array index);
   is_constant = v.is_constant;
+  is_read_only = is_read_only;
   parts = place.Nothing;
 }
 
 -- so many lanes or elements from one on, as a page asks for them
-abbrev pub told_between : Page → Lanes → model.Variable → List ℕ → (first count : ℕ) → List ToldVariable
-told_between page lanes v words first count = map (told_part lanes v words) (paged page (range_with_len first count))
+abbrev pub told_between : Form → (is_read_only : Bool) → Page → Lanes → model.Variable → List ℕ → (first count : ℕ) → List ToldVariable
+told_between form is_read_only page lanes v words first count = map (told_part form is_read_only lanes v words) (paged page (range_with_len first count))
 
 -- how many elements a range of an array of so many has: 1,000, but the last range what is left
 abbrev pub range_count : (count range : ℕ) → ℕ
 range_count count range = min 1000 (count - range * 1000)
 
 -- a range of an array: NAME[FIRST..LAST], whose elements are at a place
-abbrev pub told_range : model.Variable → (count : ℕ) → Place → (range : ℕ) → ToldVariable
-told_range v count at range = record {
+abbrev pub told_range : (is_read_only : Bool) → model.Variable → (count : ℕ) → Place → (range : ℕ) → ToldVariable
+told_range is_read_only v count at range = record {
   name = utf8_lossy v.name ++ (codes "[" ++ (decimal (range * 1000) ++ (codes ".." ++ (decimal (range * 1000 + range_count count range - 1) ++ codes "]"))));
   value = decimal (range_count count range) ++ codes " elements";
   type = type_name v.type;
   kind = kind.Range;
   is_constant = v.is_constant;
+  is_read_only = is_read_only;
   parts = within (range_of at range);
 }
 
@@ -141,27 +149,28 @@ abbrev pub ranges_in : (count : ℕ) → ℕ
 ranges_in count = (count + 999) / 1000
 
 -- the ranges of an array whose parts are at a place
-abbrev pub told_ranges : model.Variable → (count : ℕ) → Place → List ToldVariable
-told_ranges v count at = map (told_range v count at) (range_with_len 0 (ranges_in count))
+abbrev pub told_ranges : (is_read_only : Bool) → model.Variable → (count : ℕ) → Place → List ToldVariable
+told_ranges is_read_only v count at = map (told_range is_read_only v count at) (range_with_len 0 (ranges_in count))
 
 -- The lanes or elements of a variable whose parts are at a place, as a page asks for them; ranges of them where there are more than 1,000 and no place is
 -- asked for. A uniform scalar has none.
-abbrev pub told_all : Page → Lanes → Place → model.Variable → List ℕ → List ToldVariable
-told_all page lanes at v words =
+abbrev pub told_all : Form → (is_read_only : Bool) → Page → Lanes → Place → model.Variable → List ℕ → List ToldVariable
+told_all form is_read_only page lanes at v words =
     if not (has_parts v) then []
-    else (if asks_places page || nat_le (length words) 1000 then told_between page lanes v words 0 (length words) else told_ranges v (length words) at)
+    else (if asks_places page || nat_le (length words) 1000 then told_between form is_read_only page lanes v words 0 (length words) else told_ranges is_read_only v (length words) at)
 
 -- these, unless a page asks for variables alone
-abbrev pub told_parts : Page → Lanes → Place → model.Variable → List ℕ → List ToldVariable
-told_parts page lanes at v words = indexed_children page.filter (told_all page lanes at v words)
+abbrev pub told_parts : Form → (is_read_only : Bool) → Page → Lanes → Place → model.Variable → List ℕ → List ToldVariable
+told_parts form is_read_only page lanes at v words = indexed_children page.filter (told_all form is_read_only page lanes at v words)
 
 -- whether a variable of so many elements has this range
 abbrev pub has_range : (is_array : Bool) → (count range : ℕ) → Bool
 has_range is_array count range = is_array && (nat_lt 1000 count && nat_lt (range * 1000) count)
 
 -- the elements of a range, as a page asks for them
-abbrev pub told_of_range : Page → Lanes → (range : ℕ) → model.Variable → List ℕ → List ToldVariable
-told_of_range page lanes range v words = indexed_children page.filter (told_between page lanes v words (range * 1000) (range_count (length words) range))
+abbrev pub told_of_range : Form → (is_read_only : Bool) → Page → Lanes → (range : ℕ) → model.Variable → List ℕ → List ToldVariable
+told_of_range form is_read_only page lanes range v words =
+    indexed_children page.filter (told_between form is_read_only page lanes v words (range * 1000) (range_count (length words) range))
 
 -- ---- the variables of a frame
 
@@ -178,29 +187,33 @@ is_it (Some other) v = same_id other.id v.id
 abbrev pub is_found : Setting → Debugger → (depth : ℕ) → model.Variable → Bool
 is_found s d deep v = is_it (found_at s.program deep (now s d) v.name) v
 
+-- whether the frame at a depth is another one than the top one: its variables are only looked at
+abbrev pub is_outer : Setting → Debugger → (depth : ℕ) → Bool
+is_outer s d deep = not (deep == depth (now s d))
+
 -- a variable whose lanes or elements are at a place, if its name finds it in the frame at a depth
-abbrev pub told_one : Setting → Debugger → (depth : ℕ) → Place → model.Variable → List ToldVariable
-told_one s d deep parts v = if is_found s d deep v then told_whole v (words_at s d deep v) parts ∷ [] else []
+abbrev pub told_one : Form → Setting → Debugger → (depth : ℕ) → Place → model.Variable → List ToldVariable
+told_one form s d deep parts v = if is_found s d deep v then told_whole form (is_outer s d deep) v (words_at s d deep v) parts ∷ [] else []
 
 -- those of some variables that their names find in the frame at a depth; the lanes or elements of each are at the place of its number
-abbrev pub told_each : Setting → Debugger → (depth : ℕ) → (place : ℕ → Place) → (number : ℕ) → List model.Variable → List ToldVariable
-told_each s d deep at number [] = []
-told_each s d deep at number (v ∷ variables) = told_one s d deep (within (at number)) v ++ told_each s d deep at (suc number) variables
+abbrev pub told_each : Form → Setting → Debugger → (depth : ℕ) → (place : ℕ → Place) → (number : ℕ) → List model.Variable → List ToldVariable
+told_each form s d deep at number [] = []
+told_each form s d deep at number (v ∷ variables) = told_one form s d deep (within (at number)) v ++ told_each form s d deep at (suc number) variables
 
 -- the lanes that the frame at a depth shows
 abbrev pub lanes_at : Setting → Debugger → (depth : ℕ) → Lanes
 lanes_at s d deep = shown_lanes (now s d) deep
 
 -- the lanes or elements of a variable in the frame at a depth, if there is such a variable
-abbrev pub told_option : Page → Setting → Debugger → (depth : ℕ) → Place → Option model.Variable → Option (List ToldVariable)
-told_option page s d deep at None = None
-told_option page s d deep at (Some v) = Some (told_parts page (lanes_at s d deep) at v (words_at s d deep v))
+abbrev pub told_option : Form → Page → Setting → Debugger → (depth : ℕ) → Place → Option model.Variable → Option (List ToldVariable)
+told_option form page s d deep at None = None
+told_option form page s d deep at (Some v) = Some (told_parts form (is_outer s d deep) page (lanes_at s d deep) at v (words_at s d deep v))
 
 -- a range of the elements of a variable in the frame at a depth, if there is such a variable and it has the range
-abbrev pub told_range_option : Page → Setting → Debugger → (depth range : ℕ) → Option model.Variable → Option (List ToldVariable)
-told_range_option page s d deep range None = None
-told_range_option page s d deep range (Some v) =
-    if has_range v.is_array (length (words_at s d deep v)) range then Some (told_of_range page (lanes_at s d deep) range v (words_at s d deep v)) else None
+abbrev pub told_range_option : Form → Page → Setting → Debugger → (depth range : ℕ) → Option model.Variable → Option (List ToldVariable)
+told_range_option form page s d deep range None = None
+told_range_option form page s d deep range (Some v) =
+    if has_range v.is_array (length (words_at s d deep v)) range then Some (told_of_range form (is_outer s d deep) page (lanes_at s d deep) range v (words_at s d deep v)) else None
 
 -- those of a scope, as a page asks for them
 abbrev pub told_scope : Page → List ToldVariable → List ToldVariable
@@ -216,18 +229,18 @@ abbrev pub scope_list : Setting → Debugger → Scope → (depth : ℕ) → Lis
 scope_list s d scope deep = of_scope scope (listed_at s d deep) (listed_parameters_at s d deep)
 
 -- what is told of a place; the variables of the file are those that the top frame finds
-abbrev pub told_of : Page → Setting → Debugger → Place → Option (List ToldVariable)
-told_of page s d (place.Variables scope deep) = Some (told_scope page (told_each s d deep (place.Parts scope deep) 0 (scope_list s d scope deep)))
-told_of page s d (place.Parts scope deep number) = told_option page s d deep (place.Parts scope deep number) (slice_get (scope_list s d scope deep) number)
-told_of page s d (place.Range scope deep number range) = told_range_option page s d deep range (slice_get (scope_list s d scope deep) number)
-told_of page s d place.File = Some (told_scope page (told_each s d (depth (now s d)) place.OfFile 0 (take 1000 (file_variables s))))
-told_of page s d (place.OfFile number) = told_option page s d (depth (now s d)) (place.OfFile number) (slice_get (file_variables s) number)
-told_of page s d (place.FileRange number range) = told_range_option page s d (depth (now s d)) range (slice_get (file_variables s) number)
-told_of page s d place.Nothing = None
+abbrev pub told_of : Form → Page → Setting → Debugger → Place → Option (List ToldVariable)
+told_of form page s d (place.Variables scope deep) = Some (told_scope page (told_each form s d deep (place.Parts scope deep) 0 (scope_list s d scope deep)))
+told_of form page s d (place.Parts scope deep number) = told_option form page s d deep (place.Parts scope deep number) (slice_get (scope_list s d scope deep) number)
+told_of form page s d (place.Range scope deep number range) = told_range_option form page s d deep range (slice_get (scope_list s d scope deep) number)
+told_of form page s d place.File = Some (told_scope page (told_each form s d (depth (now s d)) place.OfFile 0 (take 1000 (file_variables s))))
+told_of form page s d (place.OfFile number) = told_option form page s d (depth (now s d)) (place.OfFile number) (slice_get (file_variables s) number)
+told_of form page s d (place.FileRange number range) = told_range_option form page s d (depth (now s d)) range (slice_get (file_variables s) number)
+told_of form page s d place.Nothing = None
 
 -- what is told of a reference; nothing of one that names a frame which is not there
-abbrev pub told_now : Page → Setting → Debugger → (reference : ℕ) → Option (List ToldVariable)
-told_now page s d reference = told_of page s d (place_now (depth (now s d)) reference)
+abbrev pub told_now : Form → Page → Setting → Debugger → (reference : ℕ) → Option (List ToldVariable)
+told_now form page s d reference = told_of form page s d (place_now (depth (now s d)) reference)
 
 -- a variable is told by its name with what can be shown of it in the frame at a depth, or there is none
 abbrev pub ShowsOptionAt : Setting → Debugger → (depth : ℕ) → Option model.Variable → Option NamedVariable → Type 0
