@@ -2,6 +2,7 @@ pub mod ActiveLanes
 pub mod CallFrames
 pub mod ColumnUnits
 pub mod Completing
+pub mod FrameLines
 pub mod LaneValues
 pub mod LowestLane
 pub mod Numbered

@@ -31,6 +31,9 @@ use Rattle.adapter_replies.specs.declared.places.Place.TheVariants as place
 use Rattle.adapter_replies.specs.Breakpoints.{breakpoint_of, is_part, on_function, told_breakpoint, watches_target}
 use Rattle.adapter_replies.specs.Columns.{front, utf16_length}
 use Rattle.adapter_replies.specs.Completions.{command_names, completed, frame_or, name_length}
+use Rattle.value_digits.specs.declared.digits.Digits.TheVariants as in_digits
+use Rattle.adapter_replies.specs.declared.forms.Form.TheVariants as form
+use Rattle.adapter_replies.specs.Forms.{asked_form}
 use Rattle.adapter_replies.specs.Frames.{ToldFrame, all_frames, asked_frames, call_frame, call_told, calls_told, frame_name, standing_frame}
 use Rattle.adapter_replies.specs.declared.places.Scope.TheVariants.{Locals, Arguments}
 use Rattle.adapter_replies.specs.References.{is_set_there, place_now, place_of}
@@ -85,14 +88,29 @@ no_reference = refl
 -- ---- variables
 
 -- the word of -1 is 2 ^ 64 - 1
-two_values : values t.Int8 (1 ∷ 18446744073709551615 ∷ []) ≡ codes "1 -1"
+two_values : values form.Value t.Int8 (1 ∷ 18446744073709551615 ∷ []) ≡ codes "1 -1"
 unfolding digits value_of
 two_values = refl
 
-truth_values : values t.Bool (0 ∷ 1 ∷ []) ≡ codes "false true"
+truth_values : values form.Value t.Bool (0 ∷ 1 ∷ []) ≡ codes "false true"
 truth_values = refl
 
-an_array : whole_text t.Int32 true (7 ∷ 8 ∷ 9 ∷ []) ≡ codes "3 elements"
+-- hexadecimal numbers have the bits of their type, and bools stay words; digits that a line of the console asks for are written of bools too
+hexadecimal_values : values form.Hexadecimal t.Int8 (1 ∷ 18446744073709551615 ∷ []) ≡ codes "0x1 0xff"
+unfolding digits
+hexadecimal_values = refl
+
+hexadecimal_truth : values form.Hexadecimal t.Bool (0 ∷ 1 ∷ []) ≡ codes "false true"
+hexadecimal_truth = refl
+
+binary_truth : values (form.In in_digits.Binary) t.Bool (0 ∷ 1 ∷ []) ≡ codes "0 1"
+unfolding digits
+binary_truth = refl
+
+digits_before_hexadecimal : asked_form true (Some in_digits.Decimal) ≡ form.In in_digits.Decimal
+digits_before_hexadecimal = refl
+
+an_array : whole_text form.Value t.Int32 true (7 ∷ 8 ∷ 9 ∷ []) ≡ codes "3 elements"
 unfolding digits
 an_array = refl
 
@@ -110,14 +128,14 @@ varying_scalar = record { name = codes "x"; id = File 1; type = t.Int32; rate = 
 abbrev whole_page : Page
 whole_page = record { start = None; count = None; filter = filter.All }
 
-no_parts : told_parts whole_page (true ∷ []) place.Nothing uniform_scalar (5 ∷ []) ≡ []
+no_parts : told_parts form.Value false whole_page (true ∷ []) place.Nothing uniform_scalar (5 ∷ []) ≡ []
 no_parts = refl
 
-lane_values : map (λ told. told.value) (told_parts whole_page (true ∷ false ∷ []) place.Nothing varying_scalar (5 ∷ 6 ∷ [])) ≡ codes "5" ∷ codes "6" ∷ []
+lane_values : map (λ told. told.value) (told_parts form.Value false whole_page (true ∷ false ∷ []) place.Nothing varying_scalar (5 ∷ 6 ∷ [])) ≡ codes "5" ∷ codes "6" ∷ []
 unfolding digits value_of
 lane_values = refl
 
-lane_kinds : map (λ told. told.kind) (told_parts whole_page (true ∷ false ∷ []) place.Nothing varying_scalar (5 ∷ 6 ∷ [])) ≡ kind.Plain ∷ kind.Waits ∷ []
+lane_kinds : map (λ told. told.kind) (told_parts form.Value false whole_page (true ∷ false ∷ []) place.Nothing varying_scalar (5 ∷ 6 ∷ [])) ≡ kind.Plain ∷ kind.Waits ∷ []
 unfolding digits value_of
 lane_kinds = refl
 
@@ -127,6 +145,11 @@ none_waits = refl
 
 no_element_waits : waits_at (true ∷ false ∷ []) true 1 ≡ false
 no_element_waits = refl
+
+-- of an outer frame each lane is only looked at
+lanes_looked_at : map (λ told. told.is_read_only) (told_parts form.Value true whole_page (true ∷ false ∷ []) place.Nothing varying_scalar (5 ∷ 6 ∷ [])) ≡ true ∷ true ∷ []
+unfolding digits value_of
+lanes_looked_at = refl
 
 -- ---- pages
 
@@ -153,14 +176,14 @@ no_range_of_few = refl
 
 -- ---- expressions
 
-a_lane_without_a_value : lanes_text t.Int8 (true ∷ false ∷ true ∷ []) (5 ∷ 6 ∷ 18446744073709551615 ∷ []) 3 ≡ codes "5 . -1"
+a_lane_without_a_value : lanes_text form.Value t.Int8 (true ∷ false ∷ true ∷ []) (5 ∷ 6 ∷ 18446744073709551615 ∷ []) 3 ≡ codes "5 . -1"
 unfolding digits value_of
 a_lane_without_a_value = refl
 
-of_the_lowest_lane : one_text t.Bool (false ∷ true ∷ []) (0 ∷ 1 ∷ []) ≡ codes "true"
+of_the_lowest_lane : one_text form.Value t.Bool (false ∷ true ∷ []) (0 ∷ 1 ∷ []) ≡ codes "true"
 of_the_lowest_lane = refl
 
-in_no_lane : one_text t.Bool (false ∷ false ∷ []) (0 ∷ 1 ∷ []) ≡ codes "."
+in_no_lane : one_text form.Value t.Bool (false ∷ false ∷ []) (0 ∷ 1 ∷ []) ≡ codes "."
 in_no_lane = refl
 
 short_under_the_mouse : shown_in Hover (codes "5 6") ≡ codes "5 6"
@@ -301,18 +324,18 @@ part_of_a_scalar = refl
 -- ---- by the last answer
 
 -- an expression is told its values alone, a line of the console its answer
-values_alone : (target : _) (shown : _) (told : _) (name text : Bytes) → IsEvaluated Watch name (Some (answer.Shows target shown)) text (string_bytes told) (reply.Evaluated told None 0)
+values_alone : (target : _) (shown : _) (told : _) (name text : Bytes) → IsEvaluated Watch name false (Some (answer.Shows target shown)) text (string_bytes told) (reply.Evaluated told None 0)
 values_alone target shown told name text = refl
 
 whole_answer : (target : _) (shown : _) (told : _) (name text words : Bytes) → string_bytes told ≡ shown_text text
-    → IsEvaluated Console name (Some (answer.Shows target shown)) text words (reply.Evaluated told None 0)
+    → IsEvaluated Console name false (Some (answer.Shows target shown)) text words (reply.Evaluated told None 0)
 whole_answer target shown told name text words is = ap (λ line. Some (None, line)) is
 
 -- a refusal is told as one
-refused_place : (told : _) (name text words : Bytes) → string_bytes told ≡ shown_text text → IsEvaluated Watch name (Some (answer.Refused refusal.OutOfRange)) text words (reply.Refused told)
+refused_place : (told : _) (name text words : Bytes) → string_bytes told ≡ shown_text text → IsEvaluated Watch name false (Some (answer.Refused refusal.OutOfRange)) text words (reply.Refused told)
 refused_place told name text words is = ap (λ line. Some (None, line)) is
 
-no_refused_value : (told : _) (why : _) (name text words : Bytes) → IsEvaluated Watch name (Some (answer.Refused refusal.OutOfRange)) text words (reply.Evaluated told why 0) → ⊥
+no_refused_value : (told : _) (why : _) (name text words : Bytes) → IsEvaluated Watch name false (Some (answer.Refused refusal.OutOfRange)) text words (reply.Evaluated told why 0) → ⊥
 no_refused_value told why name text words says = cc says
 
 at_watch : reason_of (answer.AtWatch 3) ≡ Some (reason.DataBreakpoint 3)

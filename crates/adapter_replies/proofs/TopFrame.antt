@@ -12,7 +12,7 @@ use Rattle.debug_traits.specs.Frames.{IsShownAt, scope_at, state_at}
 use Rattle.debug_traits.specs.Machines.{IsOneOf, IsShown, ShowsNamed, file_variables}
 use Rattle.adapter_replies.specs.Variables.{ShowsOptionAt}
 
-top_state : (state : State) → state_at (depth state) state ≡ state
+pub top_state : (state : State) → state_at (depth state) state ≡ state
 top_state state =
     let none : length state.frames - max 1 (length state.frames) ≡ 0 = omega arith in
     ap (λ n. record state { frames = drop n state.frames }) none
@@ -23,7 +23,7 @@ not_below n = grind (arith, nat_tests)
 top_scope : (p : Program) (state : State) → scope_at p (depth state) state ≡ scope_now p state
 top_scope p state = ap (λ b. scope_of (standing_of p (if b then call_at (suc (depth state)) state.frames else spot_now p state))) (not_below (length state.frames))
 
-top_shown : (s : Setting) (d : Debugger) (v : Variable) (shown : Shown) → IsShown s d v shown → IsShownAt s d (depth (now s d)) v shown
+pub top_shown : (s : Setting) (d : Debugger) (v : Variable) (shown : Shown) → IsShown s d v shown → IsShownAt s d (depth (now s d)) v shown
 top_shown s d v shown is = record {
   there = subst (λ scope. IsOneOf scope v ⊎ IsOneOf (file_variables s) v) (sym (top_scope s.program (now s d))) is.there;
   id = is.id;

@@ -14,6 +14,7 @@ use Rattle.gang_model.specs.Texts.Text.{Bytes, index_text}
 use Rattle.debug_traits.specs.declared.machine.NamedVariable.{NamedVariable}
 use Rattle.debug_traits.specs.Frames.{ShowsNamedAt, found_at, listed_at, listed_parameters_at, state_at}
 use Rattle.debug_traits.specs.Machines.{file_variables}
+use Rattle.value_digits.specs.declared.digits.Digits.{Digits}
 use Rattle.value_digits.specs.Words.{form_text}
 use Rattle.adapter_requests.specs.declared.reply.Variable.{Variable}
 use Rattle.adapter_requests.specs.declared.reply.VariableKind.{VariableKind}
@@ -66,6 +67,10 @@ rate_name rate.Varying = codes "varying"
 abbrev pub type_text : Rate → IntType → (is_array : Bool) → (count : ℕ) → Bytes
 type_text rate type true count = rate_name rate ++ codes " " ++ type_name type ++ codes "[" ++ decimal count ++ codes "]"
 type_text rate type false count = rate_name rate ++ codes " " ++ type_name type
+
+-- a blank and a word in digits
+abbrev pub behind_blank : Digits → IntType → ℕ → Bytes
+behind_blank digits type word = codes " " ++ form_text digits type word
 
 -- the values of words, with blanks between
 abbrev pub values : Form → IntType → List ℕ → Bytes

@@ -29,7 +29,7 @@ struct Printed<'a> {
 
 /// What a text asks for in a context, and whether it asks for hexadecimal numbers.
 pub(crate) fn asking_of(context: Context, text: &str, is_hexadecimal: bool) -> Asking<'_>
-    ensures { asking_view result.entry ≡ spec.asking_of context text.now is_hexadecimal }
+    ensures { asking_view result ≡ spec.asking_of context text.now is_hexadecimal }
 {
     let printed = printed_in(context, text.as_bytes());
     Asking {
@@ -42,7 +42,7 @@ pub(crate) fn asking_of(context: Context, text: &str, is_hexadecimal: bool) -> A
 
 /// What a text asks for: in the console what stands behind the word that prints, and else the whole.
 fn printed_in(context: Context, text: &[u8]) -> Printed<'_>
-    ensures { printed_view result.entry ≡ spec.printed_in context text.now }
+    ensures { printed_view result ≡ spec.printed_in context text.now }
 {
     match context {
         Context::Console => or_plain(printed_of(text), text),
@@ -52,14 +52,14 @@ fn printed_in(context: Context, text: &[u8]) -> Printed<'_>
 
 /// A text as it stands.
 fn plain(text: &[u8]) -> Printed<'_>
-    ensures { printed_view result.entry ≡ spec.plain text.now }
+    ensures { printed_view result ≡ spec.plain text.now }
 {
     Printed { digits: None, text }
 }
 
 /// What was read, else a text as it stands.
 fn or_plain<'a>(printed: Option<Printed<'a>>, text: &'a [u8]) -> Printed<'a>
-    ensures { printed_view result.entry ≡ spec.or_plain (printed_option printed.entry) text.now }
+    ensures { printed_view result ≡ spec.or_plain (printed_option printed.entry) text.now }
 {
     match printed {
         Some(printed) => printed,

@@ -8,6 +8,7 @@ ghost use Rattle.adapter_replies.specs.Completions.{completed, completion_view, 
 ghost use Rattle.adapter_replies.specs.Variables.{variable_view};
 
 use crate::columns::utf16_length;
+use crate::forms::Form;
 use crate::places::{Scope, depth_of};
 use crate::scopes::{of_file, of_frame};
 use adapter_requests::{Completion, Variable};
@@ -76,7 +77,7 @@ fn push_frame<M: FramedMachine>(
     ensures { (s : Setting) (d : Debugger) → M.stands machine.now s d
         → IfOk result (λ _. map completion_view told.new.items ≡ map completion_view told.old.items ++ spec.of_frame s d scope depth front.now) }
 {
-    let variables = of_frame(alloc, machine, scope, depth)?;
+    let variables = of_frame(alloc, machine, Form::Value, scope, depth)?;
     push_variables(alloc, front, variables.as_slice(), told)
 }
 
@@ -90,7 +91,7 @@ fn push_file<M: FramedMachine>(
     ensures { (s : Setting) (d : Debugger) → M.stands machine.now s d
         → IfOk result (λ _. map completion_view told.new.items ≡ map completion_view told.old.items ++ spec.of_file s d front.now) }
 {
-    let variables = of_file(alloc, machine, depth_of(machine))?;
+    let variables = of_file(alloc, machine, Form::Value, depth_of(machine))?;
     push_variables(alloc, front, variables.as_slice(), told)
 }
 

@@ -11,6 +11,7 @@ ghost use Rattle.adapter_replies.specs.declared.places.Place.TheVariants as plac
 ghost use Rattle.adapter_replies.specs.declared.places.Scope.TheVariants.{Arguments};
 
 use crate::expressions::plain_value;
+use crate::forms::Form;
 use crate::places::Scope;
 use crate::scopes::of_frame;
 use crate::texts::without_end;
@@ -47,11 +48,13 @@ pub(crate) enum Asked {
     Help,
     /// The parameters of a frame.
     Parameters,
+    /// The local variables of a frame.
+    Locals,
     /// The value of an expression.
     Value,
 }
 
-/// What a text asks for: in the console help or the parameters, and else the value of an expression.
+/// What a text asks for: in the console help, the parameters or the local variables, and else the value of an expression.
 pub(crate) fn asked_in(context: Context, text: &str) -> Asked
     ensures { result ≡ spec.asked_in context text.now }
 {
@@ -69,6 +72,8 @@ fn asked_by(text: &str) -> Asked
         Asked::Help
     } else if is_same(text.as_bytes(), b"info args") {
         Asked::Parameters
+    } else if is_same(text.as_bytes(), b"info locals") {
+        Asked::Locals
     } else {
         Asked::Value
     }
@@ -98,12 +103,13 @@ pub(crate) fn help_reply(alloc: Global) -> Result<Reply, AllocError>
 pub(crate) fn parameters_reply<M: FramedMachine>(
     alloc: Global,
     machine: &M,
+    form: Form,
     depth: usize,
 ) -> Result<Reply, AllocError>
     ensures { (s : Setting) (d : Debugger) → M.stands machine.now s d
-        → IfOk result (IsTold (spec.parameters_text (told_each s d depth (place.Parts Arguments depth) 0 (listed_parameters_at s d depth)))) }
+        → IfOk result (IsTold (spec.parameters_text (told_each form s d depth (place.Parts Arguments depth) 0 (listed_parameters_at s d depth)))) }
 {
-    let variables = of_frame(alloc, machine, Scope::Arguments, depth)?;
+    let variables = of_frame(alloc, machine, form, Scope::Arguments, depth)?;
     let text = parameters_text(alloc, variables.as_slice())?;
     Ok(plain_value(text))
 }

@@ -3,13 +3,17 @@ ghost use Rattle.std.specs.Prelude.{◌≡◌, ◌<◌, IfOk, None, Some, string
 ghost use Rattle.gang_types.specs.Masks.{IsGangWidth, lanes_of};
 ghost use Rattle.gang_model.specs.Debugger.Debugger.{Debugger, Setting};
 ghost use Rattle.frame_values.specs.declared.values.NoValue.TheVariants as no;
+ghost use Rattle.adapter_replies.specs.Asking.{asking_view};
 ghost use Rattle.adapter_replies.specs.Expressions.{cut, expression_text, gap, lane_text, lanes_text, no_value_text, one_text, refusal_meaning, refusal_name, refusal_text, refused_text, shown_in};
 ghost use Rattle.adapter_replies.specs.Told.{IsExpressionTold, IsAskedTold, told_place, told_value};
 ghost use Rattle.adapter_replies.specs.declared.console.Asked.TheVariants.{Value};
 ghost use Rattle.adapter_replies.specs.declared.places.Place.TheVariants as place;
 
-use crate::console::{Asked, asked_in, help_reply, parameters_reply};
+use crate::asking::Asking;
+use crate::console::{Asked, help_reply, parameters_reply};
 use crate::exceptions::fault_text;
+use crate::forms::Form;
+use crate::locals::locals_reply;
 use crate::texts::word_text;
 use adapter_requests::{Context, Reply};
 use debug_traits::Fault;
@@ -26,21 +30,21 @@ const WIDEST: usize = 16;
 /// How many bytes of a value are shown under the mouse.
 const MOST_HOVERED: usize = 200;
 
-/// What a text means that names no variable, where the frame at a depth stands: in the console it may ask for help or the parameters, and
-/// else it is an expression.
+/// What a text means that names no variable, where the frame at a depth stands: in the console it may ask for help, the parameters or the
+/// local variables, and else it is an expression.
 pub(crate) fn expression_reply<M: ExpressionMachine>(
     alloc: Global,
     machine: &M,
     depth: usize,
-    context: Context,
-    text: &str,
+    asking: Asking<'_>,
 ) -> Result<Reply, AllocError>
-    ensures { (s : Setting) (d : Debugger) → M.stands machine.now s d → IfOk result (IsExpressionTold s d depth context text.now) }
+    ensures { (s : Setting) (d : Debugger) → M.stands machine.now s d → IfOk result (IsExpressionTold s d depth (asking_view asking.entry)) }
 {
-    match asked_in(context, text) {
+    match asking.asked {
         Asked::Help => help_reply(alloc),
-        Asked::Parameters => parameters_reply(alloc, machine, depth),
-        Asked::Value => value_reply(alloc, machine, depth, context, text),
+        Asked::Parameters => parameters_reply(alloc, machine, asking.form, depth),
+        Asked::Locals => locals_reply(alloc, machine, depth),
+        Asked::Value => value_reply(alloc, machine, depth, asking),
     }
 }
 
@@ -49,15 +53,14 @@ fn value_reply<M: ExpressionMachine>(
     alloc: Global,
     machine: &M,
     depth: usize,
-    context: Context,
-    text: &str,
+    asking: Asking<'_>,
 ) -> Result<Reply, AllocError>
-    ensures { (s : Setting) (d : Debugger) → M.stands machine.now s d → IfOk result (IsAskedTold Value s d depth context text.now) }
+    ensures { (s : Setting) (d : Debugger) → M.stands machine.now s d → IfOk result (IsAskedTold Value s d depth (asking_view asking.entry)) }
 {
-    match value_of_expression(alloc, text.as_bytes(), depth, machine) {
+    match value_of_expression(alloc, asking.text, depth, machine) {
         Ok(value) => {
-            let written = expression_text(alloc, &value)?;
-            let text = shown_in(alloc, context, written)?;
+            let written = expression_text(alloc, asking.form, &value)?;
+            let text = shown_in(alloc, asking.context, written)?;
             Ok(plain_value(text))
         }
         Err(NoValue::Refused(ExpressionRefusal::Memory)) => Err(AllocError),
@@ -101,24 +104,29 @@ fn cut(alloc: Global, text: String) -> Result<String, AllocError>
 }
 
 /// The value of an expression: that of each lane, lane 0 first, with a point for one that waits; of a uniform one the value of each.
-fn expression_text(alloc: Global, value: &ExpressionValue) -> Result<String, AllocError>
-    ensures { IsGangWidth value.now.lanes.width → IfOk result (λ text. string_bytes text ≡ expression_text value.now) }
+fn expression_text(alloc: Global, form: Form, value: &ExpressionValue) -> Result<String, AllocError>
+    ensures { IsGangWidth value.now.lanes.width → IfOk result (λ text. string_bytes text ≡ expression_text form value.now) }
 {
     match value.rate {
-        Rate::Varying => lanes_text(alloc, value.value_type, &value.lanes),
-        Rate::Uniform => one_text(alloc, value.value_type, &value.lanes),
+        Rate::Varying => lanes_text(alloc, form, value.value_type, &value.lanes),
+        Rate::Uniform => one_text(alloc, form, value.value_type, &value.lanes),
     }
 }
 
 /// The value of each lane, with blanks between.
-fn lanes_text(alloc: Global, value_type: IntType, lanes: &LaneWords) -> Result<String, AllocError>
+fn lanes_text(
+    alloc: Global,
+    form: Form,
+    value_type: IntType,
+    lanes: &LaneWords,
+) -> Result<String, AllocError>
     ensures { IsGangWidth lanes.now.width
-        → IfOk result (λ text. string_bytes text ≡ lanes_text value_type (lanes_of lanes.now.width lanes.now.lanes) lanes.now.words lanes.now.width) }
+        → IfOk result (λ text. string_bytes text ≡ lanes_text form value_type (lanes_of lanes.now.width lanes.now.lanes) lanes.now.words lanes.now.width) }
 {
     let mut text = String::new(alloc);
     for lane in 0..lanes.width.min(WIDEST) {
         text.push_str(gap(lane))?;
-        text.push_str(lane_text(alloc, value_type, lanes, lane)?.as_str())?;
+        text.push_str(lane_text(alloc, form, value_type, lanes, lane)?.as_str())?;
     }
     Ok(text)
 }
@@ -133,29 +141,35 @@ fn gap(lane: usize) -> &'static str
 /// The value of a lane, or a point where it waits.
 fn lane_text(
     alloc: Global,
+    form: Form,
     value_type: IntType,
     lanes: &LaneWords,
     lane: usize,
 ) -> Result<String, AllocError>
     requires { lane < 16 }
     ensures { IsGangWidth lanes.now.width → lane < lanes.now.width
-        → IfOk result (λ text. string_bytes text ≡ lane_text value_type (lanes_of lanes.now.width lanes.now.lanes) lanes.now.words lane) }
+        → IfOk result (λ text. string_bytes text ≡ lane_text form value_type (lanes_of lanes.now.width lanes.now.lanes) lanes.now.words lane) }
 {
     if lanes.lanes.has::<WIDEST>(lane) {
-        word_text(alloc, value_type, lanes.words[lane])
+        word_text(alloc, form, value_type, lanes.words[lane])
     } else {
         String::from_str(alloc, ".")
     }
 }
 
 /// The value of the lowest active lane, or a point where each waits.
-fn one_text(alloc: Global, value_type: IntType, lanes: &LaneWords) -> Result<String, AllocError>
+fn one_text(
+    alloc: Global,
+    form: Form,
+    value_type: IntType,
+    lanes: &LaneWords,
+) -> Result<String, AllocError>
     ensures { IsGangWidth lanes.now.width
-        → IfOk result (λ text. string_bytes text ≡ one_text value_type (lanes_of lanes.now.width lanes.now.lanes) lanes.now.words) }
+        → IfOk result (λ text. string_bytes text ≡ one_text form value_type (lanes_of lanes.now.width lanes.now.lanes) lanes.now.words) }
 {
     for lane in 0..lanes.width.min(WIDEST) {
         if lanes.lanes.has::<WIDEST>(lane) {
-            return lane_text(alloc, value_type, lanes, lane);
+            return lane_text(alloc, form, value_type, lanes, lane);
         }
     }
     String::from_str(alloc, ".")

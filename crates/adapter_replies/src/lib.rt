@@ -1,13 +1,17 @@
 //! What the requests of an editor are told, from where a debugger stands after them.
 #![tactic(auto)]
 
+mod asking;
 mod breakpoints;
 mod columns;
 mod completions;
 mod console;
+mod evaluating;
 mod exceptions;
 mod expressions;
+mod forms;
 mod frames;
+mod locals;
 mod locations;
 mod opened;
 mod pages;

@@ -8,6 +8,7 @@ ghost use Rattle.adapter_replies.specs.Opened.{first_place, opened_by, opened_by
 ghost use Rattle.adapter_replies.specs.References.{place_of};
 ghost use Rattle.adapter_replies.specs.Variables.{variable_view};
 
+use crate::forms::Form;
 use crate::places::{Scope, depth_of};
 use crate::scopes::{of_file, of_frame};
 use adapter_requests::Variable;
@@ -86,7 +87,7 @@ fn in_frame<M: FramedMachine>(
     ensures { (s : Setting) (d : Debugger) → M.stands machine.now s d
         → IfOk result (λ reference. option_map place_of reference ≡ parts_in_frame s d scope depth name.now) }
 {
-    let variables = of_frame(alloc, machine, scope, depth)?;
+    let variables = of_frame(alloc, machine, Form::Value, scope, depth)?;
     Ok(reference_of_name(name, variables.as_slice()))
 }
 
@@ -99,7 +100,7 @@ fn in_file<M: FramedMachine>(
     ensures { (s : Setting) (d : Debugger) → M.stands machine.now s d
         → IfOk result (λ reference. option_map place_of reference ≡ parts_in_file s d name.now) }
 {
-    let variables = of_file(alloc, machine, depth_of(machine))?;
+    let variables = of_file(alloc, machine, Form::Value, depth_of(machine))?;
     Ok(reference_of_name(name, variables.as_slice()))
 }
 

@@ -5,11 +5,12 @@ ghost use Rattle.gang_types.specs.Masks.{IsGangWidth};
 ghost use Rattle.gang_model.specs.Types.Tree as model;
 ghost use Rattle.gang_model.specs.Debugger.Debugger.{Debugger, Setting};
 ghost use Rattle.debug_traits.specs.Frames.{ShowsNamedAt};
-ghost use Rattle.adapter_replies.specs.Variables.{ShowsOptionAt, has_range, is_varying, part_kind, range_count, ranges_in, told_all, told_between, told_of_range, told_option, told_part, told_parts, told_range, told_range_option, told_ranges, lanes_at, type_name, variable_view, words_at};
+ghost use Rattle.adapter_replies.specs.Variables.{ShowsOptionAt, has_range, is_outer, is_varying, part_kind, range_count, ranges_in, told_all, told_between, told_of_range, told_option, told_part, told_parts, told_range, told_range_option, told_ranges, lanes_at, type_name, variable_view, words_at};
 ghost use Rattle.adapter_replies.specs.Waiting.{position_lanes};
 
+use crate::forms::Form;
 use crate::pages::{asks_places, span};
-use crate::places::{Place, range_of, reference_of};
+use crate::places::{Place, is_outer, range_of, reference_of};
 use crate::texts::element_text;
 use crate::waiting::{standing, waits};
 use adapter_requests::{Filter, Page, Variable, VariableKind};
@@ -24,17 +25,18 @@ const RANGE: usize = 1_000;
 pub(crate) fn parts_of<M: FramedMachine>(
     alloc: Global,
     machine: &M,
+    form: Form,
     depth: usize,
     place: Place,
     named: Option<NamedVariable<'_>>,
     page: Page,
 ) -> Result<Option<Vec<Variable>>, AllocError>
     ensures { (s : Setting) (d : Debugger) (given : Option model.Variable) → M.stands machine.now s d → ShowsOptionAt s d depth given named.entry
-        → IfOk result (λ told. option_map (λ variables. map variable_view variables.items) told ≡ told_option page s d depth place given) }
+        → IfOk result (λ told. option_map (λ variables. map variable_view variables.items) told ≡ told_option form page s d depth place given) }
 {
     match named {
         None => Ok(None),
-        Some(named) => Ok(Some(parts(alloc, machine, depth, place, named, page)?)),
+        Some(named) => Ok(Some(parts(alloc, machine, form, depth, place, named, page)?)),
     }
 }
 
@@ -42,18 +44,19 @@ pub(crate) fn parts_of<M: FramedMachine>(
 pub(crate) fn range_parts_of<M: FramedMachine>(
     alloc: Global,
     machine: &M,
+    form: Form,
     depth: usize,
     range: usize,
     named: Option<NamedVariable<'_>>,
     page: Page,
 ) -> Result<Option<Vec<Variable>>, AllocError>
     ensures { (s : Setting) (d : Debugger) (given : Option model.Variable) → M.stands machine.now s d → ShowsOptionAt s d depth given named.entry
-        → IfOk result (λ told. option_map (λ variables. map variable_view variables.items) told ≡ told_range_option page s d depth range given) }
+        → IfOk result (λ told. option_map (λ variables. map variable_view variables.items) told ≡ told_range_option form page s d depth range given) }
 {
     match named {
         None => Ok(None),
         Some(named) if has_range(named.shown.is_array, named.shown.count, range) => {
-            Ok(Some(range_parts(alloc, machine, depth, range, named, page)?))
+            Ok(Some(range_parts(alloc, machine, form, depth, range, named, page)?))
         }
         Some(_) => Ok(None),
     }
@@ -63,17 +66,18 @@ pub(crate) fn range_parts_of<M: FramedMachine>(
 fn parts<M: FramedMachine>(
     alloc: Global,
     machine: &M,
+    form: Form,
     depth: usize,
     place: Place,
     named: NamedVariable<'_>,
     page: Page,
 ) -> Result<Vec<Variable>, AllocError>
     ensures { (s : Setting) (d : Debugger) (v : model.Variable) → M.stands machine.now s d → ShowsNamedAt s d depth v named.entry
-        → IfOk result (λ told. map variable_view told.items ≡ told_parts page (lanes_at s d depth) place v (words_at s d depth v)) }
+        → IfOk result (λ told. map variable_view told.items ≡ told_parts form (is_outer s d depth) page (lanes_at s d depth) place v (words_at s d depth v)) }
 {
     match page.filter {
         Filter::Named => Ok(Vec::new(alloc)),
-        Filter::All | Filter::Indexed => all_parts(alloc, machine, depth, place, named, page),
+        Filter::All | Filter::Indexed => all_parts(alloc, machine, form, depth, place, named, page),
     }
 }
 
@@ -81,21 +85,22 @@ fn parts<M: FramedMachine>(
 fn all_parts<M: FramedMachine>(
     alloc: Global,
     machine: &M,
+    form: Form,
     depth: usize,
     place: Place,
     named: NamedVariable<'_>,
     page: Page,
 ) -> Result<Vec<Variable>, AllocError>
     ensures { (s : Setting) (d : Debugger) (v : model.Variable) → M.stands machine.now s d → ShowsNamedAt s d depth v named.entry
-        → IfOk result (λ told. map variable_view told.items ≡ told_all page (lanes_at s d depth) place v (words_at s d depth v)) }
+        → IfOk result (λ told. map variable_view told.items ≡ told_all form (is_outer s d depth) page (lanes_at s d depth) place v (words_at s d depth v)) }
 {
     let count = named.shown.count;
     if !has_parts(named.shown) {
         Ok(Vec::new(alloc))
     } else if asks_places(page) || count <= RANGE {
-        between(alloc, machine, depth, named, page, 0, count)
+        between(alloc, machine, form, depth, named, page, 0, count)
     } else {
-        ranges(alloc, named, place)
+        ranges(alloc, is_outer(machine, depth), named, place)
     }
 }
 
@@ -110,6 +115,7 @@ fn has_range(is_array: bool, count: usize, range: usize) -> bool
 fn range_parts<M: FramedMachine>(
     alloc: Global,
     machine: &M,
+    form: Form,
     depth: usize,
     range: usize,
     named: NamedVariable<'_>,
@@ -117,13 +123,22 @@ fn range_parts<M: FramedMachine>(
 ) -> Result<Vec<Variable>, AllocError>
     requires { range * 1000 < named.shown.count }
     ensures { (s : Setting) (d : Debugger) (v : model.Variable) → M.stands machine.now s d → ShowsNamedAt s d depth v named.entry
-        → IfOk result (λ told. map variable_view told.items ≡ told_of_range page (lanes_at s d depth) range v (words_at s d depth v)) }
+        → IfOk result (λ told. map variable_view told.items ≡ told_of_range form (is_outer s d depth) page (lanes_at s d depth) range v (words_at s d depth v)) }
 {
     match page.filter {
         Filter::Named => Ok(Vec::new(alloc)),
         Filter::All | Filter::Indexed => {
             let many = range_count(named.shown.count, range);
-            between(alloc, machine, depth, named, page, range * RANGE, many)
+            between(
+                alloc,
+                machine,
+                form,
+                depth,
+                named,
+                page,
+                range * RANGE,
+                many,
+            )
         }
     }
 }
@@ -132,6 +147,7 @@ fn range_parts<M: FramedMachine>(
 fn between<M: FramedMachine>(
     alloc: Global,
     machine: &M,
+    form: Form,
     depth: usize,
     named: NamedVariable<'_>,
     page: Page,
@@ -140,17 +156,18 @@ fn between<M: FramedMachine>(
 ) -> Result<Vec<Variable>, AllocError>
     requires { first + count ≤ named.shown.count }
     ensures { (s : Setting) (d : Debugger) (v : model.Variable) → M.stands machine.now s d → ShowsNamedAt s d depth v named.entry
-        → IfOk result (λ told. map variable_view told.items ≡ told_between page (lanes_at s d depth) v (words_at s d depth v) first count) }
+        → IfOk result (λ told. map variable_view told.items ≡ told_between form (is_outer s d depth) page (lanes_at s d depth) v (words_at s d depth v) first count) }
 {
     let (first, count) = span(page, first, count);
     let position = standing(machine, depth);
-    parts_from(alloc, machine, depth, named, position, first, count)
+    parts_from(alloc, machine, form, depth, named, position, first, count)
 }
 
 /// So many lanes or elements of a variable from one on, where the active lanes are those of a position.
 fn parts_from<M: FramedMachine>(
     alloc: Global,
     machine: &M,
+    form: Form,
     depth: usize,
     named: NamedVariable<'_>,
     position: Option<Position<'_>>,
@@ -160,11 +177,11 @@ fn parts_from<M: FramedMachine>(
     requires width { IfSome position (λ at. IsGangWidth at.width) }
     requires within { first + count ≤ named.shown.count }
     ensures { (s : Setting) (d : Debugger) (v : model.Variable) → M.stands machine.now s d → ShowsNamedAt s d depth v named.entry
-        → IfOk result (λ told. map variable_view told.items ≡ map (told_part (position_lanes position.entry) v (words_at s d depth v)) (range_with_len first count)) }
+        → IfOk result (λ told. map variable_view told.items ≡ map (told_part form (is_outer s d depth) (position_lanes position.entry) v (words_at s d depth v)) (range_with_len first count)) }
 {
     let mut told = Vec::new(alloc);
     for offset in 0..count {
-        told.push(part(alloc, machine, depth, named, position, first + offset)?)?;
+        told.push(part(alloc, machine, form, depth, named, position, first + offset)?)?;
     }
     Ok(told)
 }
@@ -173,6 +190,7 @@ fn parts_from<M: FramedMachine>(
 fn part<M: FramedMachine>(
     alloc: Global,
     machine: &M,
+    form: Form,
     depth: usize,
     named: NamedVariable<'_>,
     position: Option<Position<'_>>,
@@ -180,18 +198,18 @@ fn part<M: FramedMachine>(
 ) -> Result<Variable, AllocError>
     requires { IfSome position (λ at. IsGangWidth at.width) }
     ensures { (s : Setting) (d : Debugger) (v : model.Variable) → M.stands machine.now s d → ShowsNamedAt s d depth v named.entry
-        → index < named.entry.shown.count → IfOk result (λ told. variable_view told ≡ told_part (position_lanes position.entry) v (words_at s d depth v) index) }
+        → index < named.entry.shown.count → IfOk result (λ told. variable_view told ≡ told_part form (is_outer s d depth) (position_lanes position.entry) v (words_at s d depth v) index) }
 {
     let shown = named.shown;
     let mut name = String::from_utf8_lossy(alloc, named.name)?;
     name.push_str(format!(in alloc; "[{index}]")?.as_str())?;
     Ok(Variable {
         name,
-        value: element_text(alloc, machine, depth, shown, index)?,
+        value: element_text(alloc, machine, form, depth, shown, index)?,
         type_name: String::from_str(alloc, type_name(shown.value_type))?,
         kind: part_kind(!shown.is_array && waits(position, index)),
         is_constant: shown.is_constant,
-        is_read_only: false,
+        is_read_only: is_outer(machine, depth),
         reference: 0,
     })
 }
@@ -210,15 +228,16 @@ fn part_kind(waits: bool) -> VariableKind
 /// The ranges of an array whose parts are at a place.
 fn ranges(
     alloc: Global,
+    is_read_only: bool,
     named: NamedVariable<'_>,
     place: Place,
 ) -> Result<Vec<Variable>, AllocError>
     ensures { (s : Setting) (d : Debugger) (depth : ℕ) (v : model.Variable) → ShowsNamedAt s d depth v named.entry
-        → IfOk result (λ told. map variable_view told.items ≡ told_ranges v named.entry.shown.count place) }
+        → IfOk result (λ told. map variable_view told.items ≡ told_ranges is_read_only v named.entry.shown.count place) }
 {
     let mut told = Vec::new(alloc);
     for range in 0..ranges_in(named.shown.count) {
-        told.push(range_shown(alloc, named, place, range)?)?;
+        told.push(range_shown(alloc, is_read_only, named, place, range)?)?;
     }
     Ok(told)
 }
@@ -242,13 +261,14 @@ fn range_count(count: usize, range: usize) -> usize
 /// A range of an array whose parts are at a place.
 fn range_shown(
     alloc: Global,
+    is_read_only: bool,
     named: NamedVariable<'_>,
     place: Place,
     range: usize,
 ) -> Result<Variable, AllocError>
     requires { range * 1000 < named.shown.count }
     ensures { (s : Setting) (d : Debugger) (depth : ℕ) (v : model.Variable) → ShowsNamedAt s d depth v named.entry
-        → IfOk result (λ told. variable_view told ≡ told_range v named.entry.shown.count place range) }
+        → IfOk result (λ told. variable_view told ≡ told_range is_read_only v named.entry.shown.count place range) }
 {
     let shown = named.shown;
     let first = range * RANGE;
@@ -262,7 +282,7 @@ fn range_shown(
         type_name: String::from_str(alloc, type_name(shown.value_type))?,
         kind: VariableKind::Range,
         is_constant: shown.is_constant,
-        is_read_only: false,
+        is_read_only,
         reference: reference_of(range_of(place, range)),
     })
 }

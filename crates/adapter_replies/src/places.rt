@@ -3,6 +3,7 @@ ghost use Rattle.std.specs.Prelude.{◌≡◌, ◌<◌, ◌*◌, ◌+◌, if◌t
 ghost use Rattle.gang_model.specs.Debugger.Debugger as model;
 ghost use Rattle.gang_model.specs.Debugger.Debugger.{Debugger, Setting, now};
 ghost use Rattle.adapter_replies.specs.References.{has_range_room, has_room, is_frame, is_set_there, is_there, numbered, place_now, place_of, range_of, within};
+ghost use Rattle.adapter_replies.specs.Variables.{is_outer};
 ghost use Rattle.adapter_replies.specs.declared.places.Place.TheVariants as place;
 
 use debug_traits::RecordedMachine;
@@ -71,6 +72,13 @@ pub fn depth_of<M: RecordedMachine>(machine: &M) -> usize
         None => 1,
         Some(position) => position.depth,
     }
+}
+
+/// Whether the frame at a depth is another one than the top one: its variables are only looked at.
+pub(crate) fn is_outer<M: RecordedMachine>(machine: &M, depth: usize) -> bool
+    ensures { (s : Setting) (d : Debugger) → M.stands machine.now s d → result ≡ is_outer s d depth }
+{
+    depth != depth_of(machine)
 }
 
 /// Whether a program of this depth has a frame at another one.

@@ -3,34 +3,30 @@ ghost use Rattle.std.specs.Prelude.{◌≡◌, ◌++◌, ℕ, List, IfOk, IfSome
 ghost use Rattle.gang_model.specs.Debugger.Debugger as model;
 ghost use Rattle.gang_model.specs.Debugger.Debugger.{Debugger, Setting, depth, now};
 ghost use Rattle.gang_model.specs.Texts.Text.{text};
-ghost use Rattle.debug_answers.specs.Meanings.{AreStops, Means};
-ghost use Rattle.debug_session.specs.Sessions.{is_refused};
+ghost use Rattle.debug_answers.specs.Meanings.{AreStops};
 ghost use Rattle.adapter_replies.specs.Columns.{front};
 ghost use Rattle.adapter_replies.specs.Completions.{frame_or};
 ghost use Rattle.adapter_replies.specs.Frames.{all_frames};
-ghost use Rattle.adapter_replies.specs.Opened.{unless_refused};
 ghost use Rattle.adapter_replies.specs.References.{is_frame, place_of, within};
 ghost use Rattle.adapter_replies.specs.Variables.{told_now};
 ghost use Rattle.adapter_replies.specs.declared.places.Place.TheVariants as place;
 ghost use Rattle.adapter_replies.specs.declared.places.Scope.TheVariants.{Arguments, Locals};
-ghost use Rattle.adapter_replies.specs.Told.{AreBreakpointsTold, AreCompletionsToldIn, AreFramesTold, AreScopesTold, AreThreadsTold, AreVariablesTold, IsAnswered, IsAnsweredIn, IsEvaluated, IsGotoTold, IsLineTold, IsLookedUp, IsMoveTold, IsSetTold, IsTextTold, IsToldOf, IsValueTold, MeansLast, fixed_reply, is_ended, is_expression, is_line, is_unnamed, refusal_text, shown_values, told_place, told_stop};
+ghost use Rattle.adapter_replies.specs.Told.{AreBreakpointsTold, AreCompletionsToldIn, AreFramesTold, AreScopesTold, AreThreadsTold, AreVariablesTold, IsAnswered, IsGotoTold, IsMoveTold, IsToldOf, MeansLast, fixed_reply, is_ended, refusal_text, shown_values, told_stop};
 
 use crate::breakpoints::{breakpoints, functions, watchable, watches};
 use crate::columns::front_of;
 use crate::completions::completions;
+use crate::evaluating::{Line, evaluated, looked_up, set};
 use crate::exceptions::NO_FAULT;
-use crate::expressions::{expression_reply, shown_in};
+use crate::forms::{Form, form_if};
 use crate::frames::{frames, frames_reply};
 use crate::locations::{goto_line, locations};
-use crate::opened::opened_by;
 use crate::places::{Place, Scope, depth_of, is_frame, reference_of};
 use crate::scopes::variables;
 use crate::stops::{goto_reason, stop_of};
-use crate::targets::found;
-use crate::texts::{answer_text, value_text};
-use adapter_requests::{Context, Page, Reply, Request, Scopes, Stop, StopReason, Thread};
+use crate::texts::answer_text;
+use adapter_requests::{Page, Reply, Request, Scopes, Stop, StopReason, Thread};
 use debug_answers::{Answer, NumberedStop, Refusal};
-use debug_commands::read_command;
 use debug_traits::{FramedMachine, RecordedMachine};
 use frame_expressions::ExpressionMachine;
 use std::alloc::{AllocError, Global};
@@ -39,13 +35,10 @@ use std::alloc::{AllocError, Global};
 pub(crate) const GANG: u64 = 1;
 
 /// Why a request for a frame is refused.
-const NO_FRAME: &str = "no frame has this number now";
+pub(crate) const NO_FRAME: &str = "no frame has this number now";
 
 /// Why a request to stand still is refused.
 const STANDS: &str = "the program stands still already: a move ends by itself";
-
-/// Why a variable is not set.
-const NOT_SET: &str = "only a variable of the top frame or of the file can be set";
 
 /// What a request is told once its commands are done, by the machine, the breakpoints and watches, and the last answer.
 ///
@@ -93,18 +86,34 @@ pub fn reply_to<M: ExpressionMachine>(
             Ok(Reply::Breakpoints(watches(alloc, machine, stops, targets)?))
         }
         Request::DataBreakpointInfo { name } => watchable(alloc, machine, name),
-        Request::SetVariable { .. } | Request::SetExpression { .. } => {
-            set(alloc, machine, stops, last)
+        Request::SetVariable {
+            reference: _,
+            name: _,
+            value: _,
+            is_hexadecimal,
         }
+        | Request::SetExpression {
+            expression: _,
+            value: _,
+            frame: _,
+            is_hexadecimal,
+        } => set(alloc, machine, stops, *is_hexadecimal, last),
         Request::Evaluate {
             expression,
             frame,
             context,
-            is_hexadecimal: _,
-        } => match last {
-            Some(answer) => evaluated(alloc, machine, stops, *context, expression, answer),
-            None => looked_up(alloc, machine, *frame, *context, expression),
-        },
+            is_hexadecimal,
+        } => {
+            let line = Line {
+                context: *context,
+                text: expression,
+                is_hexadecimal: *is_hexadecimal,
+            };
+            match last {
+                Some(answer) => evaluated(alloc, machine, stops, line, answer),
+                None => looked_up(alloc, machine, *frame, line),
+            }
+        }
         Request::Next
         | Request::StepIn
         | Request::StepOut
@@ -120,8 +129,8 @@ pub fn reply_to<M: ExpressionMachine>(
         Request::Variables {
             reference,
             page,
-            is_hexadecimal: _,
-        } => shown(alloc, machine, *reference, *page),
+            is_hexadecimal,
+        } => shown(alloc, machine, form_if(*is_hexadecimal), *reference, *page),
         Request::Completions {
             text,
             column,
@@ -155,12 +164,13 @@ fn threads(alloc: Global) -> Result<Reply, AllocError>
 fn shown<M: FramedMachine>(
     alloc: Global,
     machine: &M,
+    form: Form,
     reference: u64,
     page: Page,
 ) -> Result<Reply, AllocError>
-    ensures { (s : Setting) (d : Debugger) → M.stands machine.now s d → IfOk result (AreVariablesTold (told_now page s d reference)) }
+    ensures { (s : Setting) (d : Debugger) → M.stands machine.now s d → IfOk result (AreVariablesTold (told_now form page s d reference)) }
 {
-    match variables(alloc, machine, reference, page)? {
+    match variables(alloc, machine, form, reference, page)? {
         Some(variables) => Ok(Reply::Variables(variables)),
         None => refused(alloc, "nothing has this reference now"),
     }
@@ -251,26 +261,6 @@ fn scopes_of(depth: usize) -> Scopes
     }
 }
 
-/// What a text means in the frame of a number, where there is such a frame.
-fn looked_up<M: ExpressionMachine>(
-    alloc: Global,
-    machine: &M,
-    frame: Option<u64>,
-    context: Context,
-    text: &str,
-) -> Result<Reply, AllocError>
-    ensures { (s : Setting) (d : Debugger) → M.stands machine.now s d → IfOk result (IsLookedUp s d None frame context text.now) }
-{
-    let Some(frame) = frame else {
-        return Ok(Reply::Done);
-    };
-    let depth = frame as usize;
-    if !is_frame(depth_of(machine), depth) {
-        return refused(alloc, NO_FRAME);
-    }
-    found(alloc, machine, depth, context, text)
-}
-
 /// The refusal of a request that is not known.
 fn unknown(alloc: Global, name: &str) -> Result<Reply, AllocError>
     ensures { IfOk result (λ told. told_stop told ≡ Some (None, codes "no request " ++ name.now)) }
@@ -279,7 +269,7 @@ fn unknown(alloc: Global, name: &str) -> Result<Reply, AllocError>
 }
 
 /// A refusal by this text.
-fn refused(alloc: Global, text: &str) -> Result<Reply, AllocError>
+pub(crate) fn refused(alloc: Global, text: &str) -> Result<Reply, AllocError>
     ensures { IfOk result (λ told. told_stop told ≡ Some (None, text.now)) }
 {
     Ok(Reply::Refused(String::from_str(alloc, text)?))
@@ -337,152 +327,4 @@ fn told(text: String, reason: Option<StopReason>) -> Reply
         Some(reason) => Reply::Moved(Stop { reason, text }),
         None => Reply::Refused(text),
     }
-}
-
-/// The value that a variable was given, or why it was not.
-fn set<M: RecordedMachine>(
-    alloc: Global,
-    machine: &M,
-    stops: &[NumberedStop],
-    last: Option<Answer<'_>>,
-) -> Result<Reply, AllocError>
-    ensures { (s : Setting) (at d : Debugger) (meant : model.Answer) → M.stands machine.now s at → at.events ≡ d.events → AreStops s stops.now d.stops
-        → MeansLast s d last.entry meant → IfOk result (λ told. IsSetTold last.entry (text s meant d) (shown_values (now s d) meant) told) }
-{
-    let Some(answer) = last else {
-        return refused(alloc, NOT_SET);
-    };
-    if let Answer::Shows { target, shown } = answer {
-        return Ok(Reply::Set(value_text(alloc, machine, shown, target.at)?));
-    }
-    Ok(Reply::Refused(answer_text(alloc, &answer, machine, stops)?))
-}
-
-/// The value of an expression in the top frame, or the answer to a line of the console; or why there is none.
-fn evaluated<M: ExpressionMachine>(
-    alloc: Global,
-    machine: &M,
-    stops: &[NumberedStop],
-    context: Context,
-    expression: &str,
-    answer: Answer<'_>,
-) -> Result<Reply, AllocError>
-    ensures stands { (s : Setting) (d : Debugger) → M.stands machine.now s d → IfOk result (IsLookedUp s d (Some answer.entry) None context expression.now) }
-    ensures answered { (s : Setting) (at d : Debugger) (meant : model.Answer) → M.stands machine.now s at → at.events ≡ d.events → AreStops s stops.now d.stops
-        → Means s d answer.entry meant
-        → IfOk result (λ told. IsEvaluated context expression.now (Some answer.entry) (text s meant d) (shown_values (now s d) meant) told) }
-{
-    if is_expression(context, expression, &answer) {
-        return expression_reply(alloc, machine, depth_of(machine), context, expression);
-    }
-    let reference = opened_by(alloc, machine, &answer)?;
-    let told = answered(alloc, machine, stops, context, answer, reference)?;
-    Ok(told)
-}
-
-/// The answer to a line of the console, or the value that it shows; with the reference of that.
-fn answered<M: RecordedMachine>(
-    alloc: Global,
-    machine: &M,
-    stops: &[NumberedStop],
-    context: Context,
-    answer: Answer<'_>,
-    reference: u64,
-) -> Result<Reply, AllocError>
-    ensures answered { (s : Setting) (at d : Debugger) (meant : model.Answer) → M.stands machine.now s at → at.events ≡ d.events → AreStops s stops.now d.stops
-        → Means s d answer.entry meant
-        → IfOk result (IsAnsweredIn false context answer.entry (text s meant d) (shown_values (now s d) meant)) }
-    ensures opens { IfOk result (λ told. told_place told ≡ unless_refused answer.entry (place_of reference)) }
-{
-    match context {
-        Context::Console => line_of(alloc, machine, stops, answer, reference),
-        Context::Hover | Context::Watch => {
-            value_of(alloc, machine, stops, context, answer, reference)
-        }
-    }
-}
-
-/// Whether a text is an expression, since `print` finds no variable by it.
-fn is_expression(context: Context, text: &str, answer: &Answer<'_>) -> bool
-    ensures { result ≡ is_expression context text.now answer.now }
-{
-    is_unnamed(answer) && !is_line(context, text)
-}
-
-/// Whether a text is a line of the console that spells a command.
-fn is_line(context: Context, text: &str) -> bool
-    ensures { result ≡ is_line context text.now }
-{
-    match context {
-        Context::Console => read_command(text.as_bytes()).is_some(),
-        Context::Hover | Context::Watch => false,
-    }
-}
-
-/// Whether an answer says that a text names no variable.
-fn is_unnamed(answer: &Answer<'_>) -> bool
-    ensures { result ≡ is_unnamed answer.now }
-{
-    matches!(
-        answer,
-        Answer::Refused(Refusal::BadCommand | Refusal::NoSuchName)
-    )
-}
-
-/// The answer to a line of the console, and the reference of what it shows.
-fn line_of<M: RecordedMachine>(
-    alloc: Global,
-    machine: &M,
-    stops: &[NumberedStop],
-    answer: Answer<'_>,
-    reference: u64,
-) -> Result<Reply, AllocError>
-    ensures answered { (s : Setting) (at d : Debugger) (meant : model.Answer) → M.stands machine.now s at → at.events ≡ d.events → AreStops s stops.now d.stops
-        → Means s d answer.entry meant → IfOk result (λ told. IsLineTold answer.entry (text s meant d) told) }
-    ensures opens { IfOk result (λ told. told_place told ≡ unless_refused answer.entry (place_of reference)) }
-{
-    let text = answer_text(alloc, &answer, machine, stops)?;
-    Ok(told_line(text, &answer, reference))
-}
-
-/// The text of an answer with the reason of its stop and the reference of what it shows, or as a refusal.
-fn told_line(text: String, answer: &Answer<'_>, reference: u64) -> Reply
-    ensures answered { IsTextTold (is_refused answer.now) answer.now (string_bytes text) result }
-    ensures opens { told_place result ≡ unless_refused answer.now (place_of reference) }
-{
-    let reason = stop_of(answer);
-    match answer {
-        Answer::Refused(_) => Reply::Refused(text),
-        _ => Reply::Evaluated {
-            text,
-            reason,
-            reference,
-        },
-    }
-}
-
-/// The values of a variable and its reference, or why there are none.
-fn value_of<M: RecordedMachine>(
-    alloc: Global,
-    machine: &M,
-    stops: &[NumberedStop],
-    context: Context,
-    answer: Answer<'_>,
-    reference: u64,
-) -> Result<Reply, AllocError>
-    ensures answered { (s : Setting) (at d : Debugger) (meant : model.Answer) → M.stands machine.now s at → at.events ≡ d.events → AreStops s stops.now d.stops
-        → Means s d answer.entry meant → IfOk result (λ told. IsValueTold context answer.entry (text s meant d) (shown_values (now s d) meant) told) }
-    ensures opens { IfOk result (λ told. told_place told ≡ unless_refused answer.entry (place_of reference)) }
-{
-    if let Answer::Shows { target, shown } = answer {
-        let values = value_text(alloc, machine, shown, target.at)?;
-        let text = shown_in(alloc, context, values)?;
-        return Ok(Reply::Evaluated {
-            text,
-            reason: None,
-            reference,
-        });
-    }
-    let reply = line_of(alloc, machine, stops, answer, reference)?;
-    Ok(reply)
 }

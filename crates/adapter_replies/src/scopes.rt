@@ -6,12 +6,13 @@ ghost use Rattle.gang_model.specs.Debugger.Debugger.{Debugger, Setting, now};
 ghost use Rattle.debug_traits.specs.Frames.{IsShownAt, ShowsNamedAt, ShowsNextAt};
 ghost use Rattle.debug_traits.specs.Machines.{file_variables};
 ghost use Rattle.adapter_replies.specs.References.{place_of};
-ghost use Rattle.adapter_replies.specs.Variables.{ShowsOptionAt, is_found, of_scope, scope_list, told_each, told_now, told_one, told_whole, type_text, variable_view, whole_kind, whole_text, words_at};
+ghost use Rattle.adapter_replies.specs.Variables.{ShowsOptionAt, is_found, is_outer, of_scope, scope_list, told_each, told_now, told_one, told_whole, type_text, variable_view, whole_kind, whole_text, words_at};
 ghost use Rattle.adapter_replies.specs.declared.places.Place.TheVariants as place;
 
+use crate::forms::Form;
 use crate::pages::named_of;
 use crate::parts::{has_parts, parts_of, range_parts_of, type_name};
-use crate::places::{Place, Scope, depth_of, place_now, reference_of};
+use crate::places::{Place, Scope, depth_of, is_outer, place_now, reference_of};
 use crate::texts::value_text_at;
 use adapter_requests::{Page, Variable, VariableKind};
 use debug_traits::{FramedMachine, NamedVariable, NextLocal, Shown};
@@ -25,16 +26,17 @@ const MOST_SHOWN: usize = 1_000;
 pub(crate) fn variables<M: FramedMachine>(
     alloc: Global,
     machine: &M,
+    form: Form,
     reference: u64,
     page: Page,
 ) -> Result<Option<Vec<Variable>>, AllocError>
     ensures { (s : Setting) (d : Debugger) → M.stands machine.now s d
-        → IfOk result (λ told. option_map (λ variables. map variable_view variables.items) told ≡ told_now page s d reference) }
+        → IfOk result (λ told. option_map (λ variables. map variable_view variables.items) told ≡ told_now form page s d reference) }
 {
     let top = depth_of(machine);
     match place_now(top, reference) {
         Place::Variables { scope, depth } => {
-            let told = of_frame(alloc, machine, scope, depth)?;
+            let told = of_frame(alloc, machine, form, scope, depth)?;
             Ok(Some(named_of(alloc, told, page)?))
         }
         Place::Parts {
@@ -48,7 +50,7 @@ pub(crate) fn variables<M: FramedMachine>(
                 number,
             };
             let named = variable_of(machine, scope, depth, number);
-            parts_of(alloc, machine, depth, place, named, page)
+            parts_of(alloc, machine, form, depth, place, named, page)
         }
         Place::Range {
             scope,
@@ -57,19 +59,27 @@ pub(crate) fn variables<M: FramedMachine>(
             range,
         } => {
             let named = variable_of(machine, scope, depth, number);
-            range_parts_of(alloc, machine, depth, range, named, page)
+            range_parts_of(alloc, machine, form, depth, range, named, page)
         }
         Place::File => {
-            let told = of_file(alloc, machine, top)?;
+            let told = of_file(alloc, machine, form, top)?;
             Ok(Some(named_of(alloc, told, page)?))
         }
         Place::OfFile(number) => {
             let named = file_variable(machine, top, number);
-            parts_of(alloc, machine, top, Place::OfFile(number), named, page)
+            parts_of(
+                alloc,
+                machine,
+                form,
+                top,
+                Place::OfFile(number),
+                named,
+                page,
+            )
         }
         Place::FileRange { number, range } => {
             let named = file_variable(machine, top, number);
-            range_parts_of(alloc, machine, top, range, named, page)
+            range_parts_of(alloc, machine, form, top, range, named, page)
         }
         Place::Nothing => Ok(None),
     }
@@ -79,11 +89,12 @@ pub(crate) fn variables<M: FramedMachine>(
 pub(crate) fn of_frame<M: FramedMachine>(
     alloc: Global,
     machine: &M,
+    form: Form,
     scope: Scope,
     depth: usize,
 ) -> Result<Vec<Variable>, AllocError>
     ensures { (s : Setting) (d : Debugger) → M.stands machine.now s d
-        → IfOk result (λ told. map variable_view told.items ≡ told_each s d depth (place.Parts scope depth) 0 (scope_list s d scope depth)) }
+        → IfOk result (λ told. map variable_view told.items ≡ told_each form s d depth (place.Parts scope depth) 0 (scope_list s d scope depth)) }
 {
     let mut told = Vec::new(alloc);
     let mut from = 0;
@@ -95,7 +106,7 @@ pub(crate) fn of_frame<M: FramedMachine>(
             number,
         });
         let named = variable_here(next);
-        push_found(alloc, machine, depth, named, reference, &mut told)?;
+        push_found(alloc, machine, form, depth, named, reference, &mut told)?;
         from = place_after(next);
         number += 1;
     }
@@ -122,14 +133,14 @@ fn next_of<M: FramedMachine>(
 }
 
 /// The place from which on the variables after this one are.
-fn place_after(local: NextLocal<'_>) -> usize
+pub(crate) fn place_after(local: NextLocal<'_>) -> usize
     ensures { result ≡ local.entry.next }
 {
     local.next
 }
 
 /// The variable, without the place behind it.
-fn variable_here(local: NextLocal<'_>) -> NamedVariable<'_>
+pub(crate) fn variable_here(local: NextLocal<'_>) -> NamedVariable<'_>
     ensures { result ≡ local.entry.variable }
 {
     local.variable
@@ -161,10 +172,11 @@ fn variable_of<M: FramedMachine>(
 pub(crate) fn of_file<M: FramedMachine>(
     alloc: Global,
     machine: &M,
+    form: Form,
     top: usize,
 ) -> Result<Vec<Variable>, AllocError>
     ensures { (s : Setting) (d : Debugger) → M.stands machine.now s d → top ≡ debugger.depth (now s d)
-        → IfOk result (λ told. map variable_view told.items ≡ told_each s d top place.OfFile 0 (take 1000 (file_variables s))) }
+        → IfOk result (λ told. map variable_view told.items ≡ told_each form s d top place.OfFile 0 (take 1000 (file_variables s))) }
 {
     let mut told = Vec::new(alloc);
     for number in 0..MOST_SHOWN {
@@ -172,7 +184,7 @@ pub(crate) fn of_file<M: FramedMachine>(
             None => return Ok(told),
             Some(named) => {
                 let reference = reference_of(Place::OfFile(number));
-                push_found(alloc, machine, top, named, reference, &mut told)?;
+                push_found(alloc, machine, form, top, named, reference, &mut told)?;
             }
         }
     }
@@ -195,16 +207,17 @@ fn file_variable<M: FramedMachine>(
 fn push_found<M: FramedMachine>(
     alloc: Global,
     machine: &M,
+    form: Form,
     depth: usize,
     named: NamedVariable<'_>,
     reference: u64,
     told: &mut Vec<Variable>,
 ) -> Result<(), AllocError>
     ensures { (s : Setting) (d : Debugger) (v : model.Variable) → M.stands machine.now s d → ShowsNamedAt s d depth v named.entry
-        → IfOk result (λ _. map variable_view told.new.items ≡ map variable_view told.old.items ++ told_one s d depth (place_of reference) v) }
+        → IfOk result (λ _. map variable_view told.new.items ≡ map variable_view told.old.items ++ told_one form s d depth (place_of reference) v) }
 {
     if is_found(machine, depth, named) {
-        told.push(whole(alloc, machine, depth, named, reference)?)?;
+        told.push(whole(alloc, machine, form, depth, named, reference)?)?;
     }
     Ok(())
 }
@@ -224,21 +237,22 @@ fn is_found<M: FramedMachine>(machine: &M, depth: usize, named: NamedVariable<'_
 fn whole<M: FramedMachine>(
     alloc: Global,
     machine: &M,
+    form: Form,
     depth: usize,
     named: NamedVariable<'_>,
     reference: u64,
 ) -> Result<Variable, AllocError>
     ensures { (s : Setting) (d : Debugger) (v : model.Variable) → M.stands machine.now s d → ShowsNamedAt s d depth v named.entry
-        → IfOk result (λ told. variable_view told ≡ told_whole v (words_at s d depth v) (place_of reference)) }
+        → IfOk result (λ told. variable_view told ≡ told_whole form (is_outer s d depth) v (words_at s d depth v) (place_of reference)) }
 {
     let shown = named.shown;
     Ok(Variable {
         name: String::from_utf8_lossy(alloc, named.name)?,
-        value: whole_value(alloc, machine, depth, shown)?,
+        value: whole_value(alloc, machine, form, depth, shown)?,
         type_name: type_text(alloc, shown)?,
         kind: whole_kind(shown.is_array, shown.count),
         is_constant: shown.is_constant,
-        is_read_only: false,
+        is_read_only: is_outer(machine, depth),
         reference: if has_parts(shown) { reference } else { 0 },
     })
 }
@@ -258,17 +272,18 @@ fn whole_kind(is_array: bool, count: usize) -> VariableKind
 fn whole_value<M: FramedMachine>(
     alloc: Global,
     machine: &M,
+    form: Form,
     depth: usize,
     shown: Shown,
 ) -> Result<String, AllocError>
     ensures { (s : Setting) (d : Debugger) (v : model.Variable) → M.stands machine.now s d → IsShownAt s d depth v shown
-        → IfOk result (λ text. string_bytes text ≡ whole_text v.type v.is_array (words_at s d depth v)) }
+        → IfOk result (λ text. string_bytes text ≡ whole_text form v.type v.is_array (words_at s d depth v)) }
 {
     if shown.is_array {
         let count = shown.count;
         return format!(in alloc; "{count} elements");
     }
-    value_text_at(alloc, machine, depth, shown)
+    value_text_at(alloc, machine, form, depth, shown)
 }
 
 /// The type of a variable, as a source has it.

@@ -1,5 +1,5 @@
 //! What a text names in a frame: a variable, a lane or an element of one; or the expression that it spells.
-ghost use Rattle.std.specs.Prelude.{◌≡◌, [], IfOk, None, Some, option_map, true};
+ghost use Rattle.std.specs.Prelude.{◌≡◌, IfOk, None, Some, option_map, true};
 ghost use Rattle.gang_model.specs.Types.Tree.{Variable};
 ghost use Rattle.gang_model.specs.Debugger.Debugger as model;
 ghost use Rattle.gang_model.specs.Debugger.Debugger.{Debugger, Setting, bad_part, now};
@@ -9,19 +9,24 @@ ghost use Rattle.debug_answers.specs.Meanings.{IsInside, refusal_view};
 ghost use Rattle.debug_commands.specs.TargetViews.{target_option};
 ghost use Rattle.debug_commands.specs.Views.{target_view};
 ghost use Rattle.debug_traits.specs.Frames.{FindsAt, IsShownAt, found_at};
+ghost use Rattle.adapter_replies.specs.Asking.{asking_view};
 ghost use Rattle.adapter_replies.specs.Targets.{printed, target_in};
 ghost use Rattle.adapter_replies.specs.Told.{IsFoundTold, IsPartTold, IsTargetTold};
 
+use crate::asking::Asking;
 use crate::expressions::{expression_reply, shown_in};
 use crate::opened::opened;
 use crate::texts::part_text;
-use adapter_requests::{Context, Reply};
+use adapter_requests::Reply;
 use debug_answers::Refusal;
 use debug_commands::{Command, Target, read_command};
 use debug_traits::{FramedMachine, Shown};
 use frame_expressions::ExpressionMachine;
 use gang_types::Rate;
 use std::alloc::{AllocError, Global};
+
+/// What stands before a target in a line that prints.
+const PRINT: &[u8] = b"print ";
 
 /// Why a lane or an element is not shown that a variable has not.
 const OUT_OF_RANGE: &str = "C8 OutOfRange";
@@ -31,21 +36,15 @@ pub(crate) fn found<M: ExpressionMachine>(
     alloc: Global,
     machine: &M,
     depth: usize,
-    context: Context,
-    text: &str,
+    asking: Asking<'_>,
 ) -> Result<Reply, AllocError>
     ensures { (s : Setting) (d : Debugger) → M.stands machine.now s d
-        → IfOk result (IsTargetTold s d depth context text.now (target_in text.now)) }
+        → IfOk result (IsTargetTold s d depth (asking_view asking.entry) (target_in asking.entry.text.now)) }
 {
-    let line = format!(in alloc; "print {text}")?;
-    named(
-        alloc,
-        machine,
-        depth,
-        context,
-        text,
-        target_of(line.as_bytes()),
-    )
+    let mut line = Vec::new(alloc);
+    line.extend_from_slice(PRINT)?;
+    line.extend_from_slice(asking.text)?;
+    named(alloc, machine, depth, asking, target_of(line.as_slice()))
 }
 
 /// The target of a line that prints.
@@ -63,18 +62,17 @@ fn named<M: ExpressionMachine>(
     alloc: Global,
     machine: &M,
     depth: usize,
-    context: Context,
-    text: &str,
+    asking: Asking<'_>,
     target: Option<Target<'_>>,
 ) -> Result<Reply, AllocError>
     ensures { (s : Setting) (d : Debugger) → M.stands machine.now s d
-        → IfOk result (IsTargetTold s d depth context text.now (target_option target.entry)) }
+        → IfOk result (IsTargetTold s d depth (asking_view asking.entry) (target_option target.entry)) }
 {
     let Some(target) = target else {
-        return expression_reply(alloc, machine, depth, context, text);
+        return expression_reply(alloc, machine, depth, asking);
     };
     let shown = machine.find_at(depth, target.name);
-    found_part(alloc, machine, depth, context, text, target, shown)
+    found_part(alloc, machine, depth, asking, target, shown)
 }
 
 /// What a part of a variable, or all of it, shows in the frame at a depth; where there is no variable, the text is an expression.
@@ -82,19 +80,18 @@ fn found_part<M: ExpressionMachine>(
     alloc: Global,
     machine: &M,
     depth: usize,
-    context: Context,
-    text: &str,
+    asking: Asking<'_>,
     target: Target<'_>,
     shown: Option<Shown>,
 ) -> Result<Reply, AllocError>
     ensures { (s : Setting) (d : Debugger) (name : Bytes) → M.stands machine.now s d → FindsAt s d depth name shown
-        → IfOk result (IsFoundTold s d depth context text.now (target_view target.entry) (found_at s.program depth (now s d) name)) }
+        → IfOk result (IsFoundTold s d depth (asking_view asking.entry) (target_view target.entry) (found_at s.program depth (now s d) name)) }
 {
     match shown {
-        None => expression_reply(alloc, machine, depth, context, text),
+        None => expression_reply(alloc, machine, depth, asking),
         Some(shown) => match part_refusal(shown, target.at) {
-            None => part_reply(alloc, machine, depth, context, target, shown),
-            Some(refusal) => unshown(alloc, machine, depth, context, text, refusal),
+            None => part_reply(alloc, machine, depth, asking, target, shown),
+            Some(refusal) => unshown(alloc, machine, depth, asking, refusal),
         },
     }
 }
@@ -117,16 +114,15 @@ fn unshown<M: ExpressionMachine>(
     alloc: Global,
     machine: &M,
     depth: usize,
-    context: Context,
-    text: &str,
+    asking: Asking<'_>,
     refusal: Refusal,
 ) -> Result<Reply, AllocError>
     ensures { (s : Setting) (d : Debugger) (target : model.Target) (v : Variable) → M.stands machine.now s d
-        → IfOk result (IsPartTold s d depth context text.now target v (Some (refusal_view refusal))) }
+        → IfOk result (IsPartTold s d depth (asking_view asking.entry) target v (Some (refusal_view refusal))) }
 {
     match refusal {
         Refusal::OutOfRange => Ok(Reply::Refused(String::from_str(alloc, OUT_OF_RANGE)?)),
-        _ => expression_reply(alloc, machine, depth, context, text),
+        _ => expression_reply(alloc, machine, depth, asking),
     }
 }
 
@@ -135,15 +131,15 @@ fn part_reply<M: FramedMachine>(
     alloc: Global,
     machine: &M,
     depth: usize,
-    context: Context,
+    asking: Asking<'_>,
     target: Target<'_>,
     shown: Shown,
 ) -> Result<Reply, AllocError>
     ensures { (s : Setting) (d : Debugger) (v : Variable) → M.stands machine.now s d → IsShownAt s d depth v shown → IsInside target.entry.at shown.count
-        → IfOk result (IsPartTold s d depth context [] (target_view target.entry) v None) }
+        → IfOk result (IsPartTold s d depth (asking_view asking.entry) (target_view target.entry) v None) }
 {
-    let values = part_text(alloc, machine, depth, shown, target.at)?;
-    let text = shown_in(alloc, context, values)?;
+    let values = part_text(alloc, machine, asking.form, depth, shown, target.at)?;
+    let text = shown_in(alloc, asking.context, values)?;
     let reference = opened(alloc, machine, depth, target)?;
     Ok(Reply::Evaluated {
         text,

@@ -1,5 +1,5 @@
 //! The texts of answers.
-ghost use Rattle.std.specs.Prelude.{◌≡◌, ◌<◌, ◌++◌, ◌∷◌, [], drop, false, Some, IfOk, string_bytes};
+ghost use Rattle.std.specs.Prelude.{◌≡◌, ◌<◌, ◌++◌, ◌∷◌, [], Some, IfOk, flat_map, string_bytes};
 ghost use Rattle.gang_model.specs.Types.Tree.{Variable};
 ghost use Rattle.gang_model.specs.Debugger.Debugger as model;
 ghost use Rattle.gang_model.specs.Debugger.Debugger.{Debugger, Setting, now, part_shown, shown_words};
@@ -7,15 +7,17 @@ ghost use Rattle.gang_model.specs.Texts.Text.{text};
 ghost use Rattle.debug_traits.specs.Frames.{IsShownAt};
 ghost use Rattle.debug_traits.specs.Machines.{IsShown};
 ghost use Rattle.debug_answers.specs.Meanings.{AreStops, IsInside, Means};
-ghost use Rattle.debug_texts.specs.Wording.{value_text};
 ghost use Rattle.adapter_replies.specs.Shown.{shown_text, without_end};
-ghost use Rattle.adapter_replies.specs.Variables.{values, words_at};
+ghost use Rattle.adapter_replies.specs.Variables.{behind_blank, values, words_at};
 
+use crate::forms::{Form, digits_for};
+use crate::places::depth_of;
 use debug_answers::{Answer, NumberedStop};
-use debug_texts::{write_answer, write_value, write_values};
+use debug_texts::write_answer;
 use debug_traits::{AnswerWriter, FramedMachine, RecordedMachine, Shown, WriteFault};
 use gang_types::IntType;
 use std::alloc::{AllocError, Global};
+use value_digits::{Digits, digits_text};
 
 /// Takes what is written. It fails where there is no memory.
 #[derive(Drop)]
@@ -73,53 +75,50 @@ pub(crate) fn without_end(bytes: &[u8]) -> &[u8]
     }
 }
 
-/// The values of a variable, or of a part of it, with blanks between.
-pub(crate) fn value_text<M: RecordedMachine>(
+/// The values of a variable in the top frame, or of a part of it, with blanks between.
+pub(crate) fn top_text<M: FramedMachine>(
     alloc: Global,
     machine: &M,
+    form: Form,
     shown: Shown,
     at: Option<u32>,
 ) -> Result<String, AllocError>
     ensures { (s : Setting) (d : Debugger) (v : Variable) → M.stands machine.now s d → IsShown s d v shown → IsInside at shown.count
-        → IfOk result (λ text. string_bytes text ≡ values v.type (part_shown at (shown_words (now s d) v))) }
+        → IfOk result (λ text. string_bytes text ≡ values form v.type (part_shown at (shown_words (now s d) v))) }
 {
-    let mut writer = TextWriter {
-        bytes: Vec::new(alloc),
-        has_failed: false,
-    };
-    if write_values(at, shown, machine, &mut writer).is_err() {
-        return Err(AllocError);
-    }
-    String::from_utf8_lossy(alloc, behind_first(writer.bytes.as_slice()))
+    part_text(alloc, machine, form, depth_of(machine), shown, at)
 }
 
 /// The values of a variable in the frame at a depth, with blanks between.
 pub(crate) fn value_text_at<M: FramedMachine>(
     alloc: Global,
     machine: &M,
+    form: Form,
     depth: usize,
     shown: Shown,
 ) -> Result<String, AllocError>
     ensures { (s : Setting) (d : Debugger) (v : Variable) → M.stands machine.now s d → IsShownAt s d depth v shown
-        → IfOk result (λ text. string_bytes text ≡ values v.type (words_at s d depth v)) }
+        → IfOk result (λ text. string_bytes text ≡ values form v.type (words_at s d depth v)) }
 {
     let words = all_words(alloc, machine, depth, shown)?;
-    words_text(alloc, shown.value_type, words.as_slice())
+    words_text(alloc, form, shown.value_type, words.as_slice())
 }
 
 /// The value of a lane or an element of a variable in the frame at a depth.
 pub(crate) fn element_text<M: FramedMachine>(
     alloc: Global,
     machine: &M,
+    form: Form,
     depth: usize,
     shown: Shown,
     index: usize,
 ) -> Result<String, AllocError>
     ensures { (s : Setting) (d : Debugger) (v : Variable) → M.stands machine.now s d → IsShownAt s d depth v shown → index < shown.count
-        → IfOk result (λ text. string_bytes text ≡ values v.type (part_shown (Some index) (words_at s d depth v))) }
+        → IfOk result (λ text. string_bytes text ≡ values form v.type (part_shown (Some index) (words_at s d depth v))) }
 {
     word_text(
         alloc,
+        form,
         shown.value_type,
         machine.word_at(depth, shown, index),
     )
@@ -129,28 +128,34 @@ pub(crate) fn element_text<M: FramedMachine>(
 pub(crate) fn part_text<M: FramedMachine>(
     alloc: Global,
     machine: &M,
+    form: Form,
     depth: usize,
     shown: Shown,
     at: Option<u32>,
 ) -> Result<String, AllocError>
     ensures { (s : Setting) (d : Debugger) (v : Variable) → M.stands machine.now s d → IsShownAt s d depth v shown → IsInside at shown.count
-        → IfOk result (λ text. string_bytes text ≡ values v.type (part_shown at (words_at s d depth v))) }
+        → IfOk result (λ text. string_bytes text ≡ values form v.type (part_shown at (words_at s d depth v))) }
 {
     match at {
-        None => value_text_at(alloc, machine, depth, shown),
-        Some(index) => element_text(alloc, machine, depth, shown, index as usize),
+        None => value_text_at(alloc, machine, form, depth, shown),
+        Some(index) => element_text(alloc, machine, form, depth, shown, index as usize),
     }
 }
 
 /// The value of a word of a type.
-pub(crate) fn word_text(alloc: Global, value_type: IntType, word: u64) -> Result<String, AllocError>
-    ensures { IfOk result (λ text. string_bytes text ≡ values value_type (word ∷ [])) }
+pub(crate) fn word_text(
+    alloc: Global,
+    form: Form,
+    value_type: IntType,
+    word: u64,
+) -> Result<String, AllocError>
+    ensures { IfOk result (λ text. string_bytes text ≡ values form value_type (word ∷ [])) }
 {
-    words_text(alloc, value_type, &[word])
+    words_text(alloc, form, value_type, &[word])
 }
 
 /// The words of a variable in the frame at a depth.
-fn all_words<M: FramedMachine>(
+pub(crate) fn all_words<M: FramedMachine>(
     alloc: Global,
     machine: &M,
     depth: usize,
@@ -167,37 +172,39 @@ fn all_words<M: FramedMachine>(
 }
 
 /// The values of words of a type, with blanks between.
-fn words_text(alloc: Global, value_type: IntType, words: &[u64]) -> Result<String, AllocError>
-    ensures { IfOk result (λ text. string_bytes text ≡ values value_type words.now) }
+fn words_text(
+    alloc: Global,
+    form: Form,
+    value_type: IntType,
+    words: &[u64],
+) -> Result<String, AllocError>
+    ensures { IfOk result (λ text. string_bytes text ≡ values form value_type words.now) }
 {
-    let mut writer = TextWriter {
-        bytes: Vec::new(alloc),
-        has_failed: false,
-    };
-    for word in words {
-        push_value(value_type, *word, &mut writer)?;
+    match words {
+        [] => Ok(String::new(alloc)),
+        [first, others @ ..] => {
+            let digits = digits_for(form, value_type);
+            let mut text = digits_text(alloc, digits, value_type, *first)?;
+            push_words(alloc, digits, value_type, others, &mut text)?;
+            Ok(text)
+        }
     }
-    String::from_utf8_lossy(alloc, behind_first(writer.bytes.as_slice()))
 }
 
-/// Puts a blank and the value of a word behind what is written.
-fn push_value(value_type: IntType, word: u64, writer: &mut TextWriter) -> Result<(), AllocError>
-    requires { writer.old.has_failed ≡ false }
-    ensures { IfOk result (λ _. (writer.new.bytes.items ≡ writer.old.bytes.items ++ value_text value_type word) × (writer.new.has_failed ≡ false)) }
+/// Puts a blank and the text of a word behind others, for each of some words.
+pub(crate) fn push_words(
+    alloc: Global,
+    digits: Digits,
+    value_type: IntType,
+    words: &[u64],
+    text: &mut String,
+) -> Result<(), AllocError>
+    ensures { IfOk result (λ _. string_bytes text.new ≡ string_bytes text.old ++ flat_map (behind_blank digits value_type) words.now) }
 {
-    writer.bytes.push(b' ')?;
-    if write_value(value_type, word, writer).is_err() {
-        return Err(AllocError);
+    for word in words {
+        text.push_str(" ")?;
+        let shown = digits_text(alloc, digits, value_type, *word)?;
+        text.push_str(shown.as_str())?;
     }
     Ok(())
-}
-
-/// The bytes but the first one.
-fn behind_first(bytes: &[u8]) -> &[u8]
-    ensures { result.now ≡ drop 1 bytes.now }
-{
-    match bytes {
-        [_, rest @ ..] => rest,
-        [] => bytes,
-    }
 }

@@ -2,7 +2,7 @@
 use Rattle.std.specs.List.{list_any}
 use Rattle.std.specs.Prelude.{ℕ, Bool, true, false, not, List, [], ◌∷◌, ◌++◌, flat_map, map, Option, Some, None, Result, Ok, Err, codes, decimal, is_some, ◌&&◌, ◌==◌, if◌then◌else◌}
 use Rattle.gang_model.specs.Source.Names.{same_text}
-use Rattle.gang_model.specs.Debugger.Debugger.{Command, Debugger, Setting, Stop, Line, Watch, depth, now}
+use Rattle.gang_model.specs.Debugger.Debugger.{Command, Debugger, DoInfoLocals, DoPrint, Setting, Stop, Line, Watch, depth, now}
 use Rattle.gang_model.specs.Types.Tree.{Program}
 use Rattle.gang_model.specs.Texts.CommandText.{command_of}
 use Rattle.gang_model.specs.Texts.Text.{Bytes}
@@ -93,9 +93,20 @@ abbrev pub is_console : Context → Bool
 is_console Console = true
 is_console other = false
 
--- the line of an expression: in the console the line itself, where it spells a command; else that which shows it
+-- whether a command only looks at the top frame: the reply says the same of another one
+abbrev pub is_look : Command → Bool
+is_look (DoPrint target) = true
+is_look DoInfoLocals = true
+is_look other = false
+
+-- whether a line of the console is done as the command that it spells: one that looks at the top frame is not, where another one is looked at
+abbrev pub is_done : (is_elsewhere : Bool) → Option Command → Bool
+is_done is_elsewhere None = false
+is_done is_elsewhere (Some command) = not (is_elsewhere && is_look command)
+
+-- the line of an expression: in the console the line itself, where it spells a command that is done; else that which shows it
 abbrev pub evaluated : (is_console is_elsewhere : Bool) → Bytes → List Bytes
-evaluated is_console is_elsewhere text = if is_console && is_some (command_of text) then only text else print_lines is_elsewhere text
+evaluated is_console is_elsewhere text = if is_console && is_done is_elsewhere (command_of text) then only text else print_lines is_elsewhere text
 
 -- the line that sets a target, where it can be set
 abbrev pub set_lines : (is_set : Bool) → (target value : Bytes) → List Bytes

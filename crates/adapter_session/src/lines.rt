@@ -2,11 +2,13 @@
 ghost use Rattle.std.specs.Prelude.{◌≡◌, ℕ, List, ◌++◌, flat_map, map, string_bytes, IfOk};
 ghost use Rattle.gang_model.specs.Debugger.Debugger as model;
 ghost use Rattle.gang_model.specs.Debugger.Debugger.{Debugger, Setting, depth, now};
+ghost use Rattle.gang_model.specs.Texts.CommandText.{command_of};
 ghost use Rattle.debug_answers.specs.Meanings.{AreStops};
+ghost use Rattle.debug_commands.specs.Views.{command_view};
 ghost use Rattle.debug_session.specs.Sessions.{StandsFor};
 ghost use Rattle.typed_tree.specs.Views.{program_view};
 ghost use Rattle.adapter_session.specs.Given.{given_numbers, is_of, is_on_line};
-ghost use Rattle.adapter_session.specs.Requested.{break_at, break_line, delete_line, evaluated, function_line_for, is_console, is_elsewhere, is_in, is_program, line_for, lines_of, only, set_lines, watch_line};
+ghost use Rattle.adapter_session.specs.Requested.{break_at, break_line, delete_line, evaluated, function_line_for, is_console, is_done, is_elsewhere, is_in, is_look, is_program, line_for, lines_of, only, set_lines, watch_line};
 ghost use Rattle.adapter_session.specs.Terms.{terms_of};
 
 use crate::terms::Terms;
@@ -15,7 +17,7 @@ use adapter_requests::{
     BreakpointFault, Context, DataBreakpoint, FunctionBreakpoint, LineBreakpoint, Request,
 };
 use debug_answers::{NumberedStop, Stop};
-use debug_commands::read_command;
+use debug_commands::{Command, read_command};
 use debug_session::Session;
 use debug_words::is_same;
 use frame_expressions::ExpressionMachine;
@@ -202,8 +204,26 @@ pub(crate) fn is_console(context: Context) -> bool
     context == Context::Console
 }
 
-/// The line of an expression: in the console the line itself, where it spells a command; else that which shows it, unless it is
-/// looked up in another frame than the top one.
+/// Whether a line of the console is done as the command that it spells: one that looks at the top frame is not, where another one is
+/// looked at.
+fn is_done(line: &str, is_elsewhere: bool) -> bool
+    ensures { result ≡ is_done is_elsewhere (command_of line.now) }
+{
+    match read_command(line.as_bytes()) {
+        None => false,
+        Some(command) => !(is_elsewhere && is_look(command)),
+    }
+}
+
+/// Whether a command only looks at the top frame.
+fn is_look(command: Command<'_>) -> bool
+    ensures { result ≡ is_look (command_view command.entry) }
+{
+    matches!(command, Command::Print(_) | Command::InfoLocals)
+}
+
+/// The line of an expression: in the console the line itself, where it spells a command that is done; else that which shows it, unless
+/// it is looked up in another frame than the top one.
 fn evaluated(
     alloc: Global,
     expression: &str,
@@ -212,7 +232,7 @@ fn evaluated(
 ) -> Result<Vec<String>, AllocError>
     ensures { IfOk result (λ lines. map string_bytes lines.items ≡ evaluated is_console is_elsewhere expression.now) }
 {
-    if is_console && read_command(expression.as_bytes()).is_some() {
+    if is_console && is_done(expression, is_elsewhere) {
         alone(alloc, expression)
     } else if is_elsewhere {
         Ok(Vec::new(alloc))

@@ -7,6 +7,7 @@ use Rattle.debug_session.specs.Sessions.{bare}
 use Rattle.adapter_requests.specs.declared.request.Context.TheVariants.{Watch}
 use Rattle.adapter_requests.specs.declared.reply.Reply.{Reply}
 use Rattle.adapter_requests.specs.declared.reply.Reply.TheVariants as reply
+use Rattle.adapter_replies.specs.Asking.{asking_of}
 use Rattle.adapter_replies.specs.References.{is_frame}
 use Rattle.adapter_replies.specs.Told.{IsNameToldIn}
 use Rattle.log_points.specs.Points.{Written}
@@ -22,7 +23,7 @@ told_text other = None
 -- the text that stands for an expression where the top frame stands: what an editor is told of it in a list of watched expressions
 pub record IsShown (s : Setting) (d : Debugger) (expression text : Bytes) : Type 0 where
   pub told : Reply
-  pub is_told : IsNameToldIn (is_frame (depth (now s d)) (depth (now s d))) s (bare d) (depth (now s d)) Watch expression told
+  pub is_told : IsNameToldIn (is_frame (depth (now s d)) (depth (now s d))) s (bare d) (depth (now s d)) (asking_of Watch expression false) told
   pub text_is : told_text told ≡ Some text
 
 -- ---- the text of a message

@@ -13,7 +13,7 @@ loop-lane-preserved c gang =
     let inside : lane < given.width = omega (arith, c.loop-lane-test.true, c.min-lane-end.ensures) in
     let first = c.in_ok-push_str.ensures.bytes ∙ ap (λ t. old ++ t) c.gap.ensures in
     let value = c.as_str.ensures.value ∙ c.in_ok-lane_text.ensures gang inside in
-    joined_more (lane_text c.args.value_type (lanes_of given.width given.lanes) given.words) lane old _ (c.loop-lane.invariant gang)
+    joined_more (lane_text c.args.form c.args.value_type (lanes_of given.width given.lanes) given.words) lane old _ (c.loop-lane.invariant gang)
     (c.in_ok-push_str-2.ensures.bytes ∙ ap (λ t. t ++ c.as_str.result.now) first ∙ ap (λ t. (old ++ gap lane) ++ t) value)
 
 pub returns : goal.returns
@@ -21,4 +21,4 @@ returns c gang =
     let given = c.args.lanes.now in
     let wide = gang_width-le given.width gang in
     let end : c.loop-lane.lane ≡ given.width = omega (arith, c.loop-lane-test.false, c.min-lane-end.ensures, wide) in
-    c.loop-lane.invariant gang ∙ ap (lanes_text c.args.value_type (lanes_of given.width given.lanes) given.words) end
+    c.loop-lane.invariant gang ∙ ap (lanes_text c.args.form c.args.value_type (lanes_of given.width given.lanes) given.words) end

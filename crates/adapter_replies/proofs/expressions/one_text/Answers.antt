@@ -17,7 +17,7 @@ returns-then-has c gang =
     let inside : lane < given.width = omega (arith, c.loop-lane-test.true, c.min-lane-end.ensures) in
     let active : has lanes lane ≡ true = sym (in_widest given.width given.lanes lane gang inside) ∙ sym c.has.ensures ∙ c.if-has.true in
     let (some, is) = lowest_at lanes lane active (c.loop-lane.invariant gang) in
-    let value = lane_text c.args.value_type lanes given.words in
+    let value = lane_text c.args.form c.args.value_type lanes given.words in
     IfOk-weaker c.lane_text.result _ _ (λ text said. said ∙ ap value (sym is) ∙ ap (λ b. if b then codes "." else value (lowest lanes)) (sym some)) (c.lane_text.ensures gang inside)
 
 pub loop-lane-preserved : goal.loop-lane-preserved
@@ -39,5 +39,5 @@ returns c gang =
     let wide = gang_width-le given.width gang in
     let all = length-lanes_of_word given.width given.lanes.word in
     let none = none_in lanes (λ k less. c.loop-lane.invariant gang k (omega (arith, less, all, wide, c.loop-lane-test.false, c.min-lane-end.ensures))) in
-    let value = lane_text c.args.value_type lanes given.words in
+    let value = lane_text c.args.form c.args.value_type lanes given.words in
     IfOk-weaker c.from_str.result _ _ (λ text said. said ∙ ap (λ b. if b then codes "." else value (lowest lanes)) (sym none)) c.from_str.ensures.ok

@@ -15,4 +15,4 @@ returns c s d depth v (named, shown) =
     ∙ ap (λ text. utf8_lossy v.name ++ text) behind in
     let value = c.in_ok-format-2.ensures.ok ∙ ap (λ many. decimal many ++ codes " elements") c.range_count-many.ensures in
     let type = c.in_ok-from_str.ensures.ok ∙ c.type_name.ensures ∙ ap type_name (sym shown.type) in
-    made_same name value type refl (sym shown.is_constant) (c.reference_of.ensures ∙ ap within c.range_of.ensures)
+    made_same name value type refl (sym shown.is_constant) refl (c.reference_of.ensures ∙ ap within c.range_of.ensures)

@@ -11,7 +11,7 @@ pub returns-in-None : goal.returns-in-None
 returns-in-None g c s d st top =
     let number = c.loop-number.number in
     let none = unnamed s d c.args.top (slice_get (file_variables s) number) (c.in-None.ensures s d st top) in
-    told_last s d c.args.top place.OfFile _ (map variable_view c.loop-number.told.items) number (drop number (take 1000 (file_variables s))) (c.loop-number.invariant s d st top)
+    told_last c.args.form s d c.args.top place.OfFile _ (map variable_view c.loop-number.told.items) number (drop number (take 1000 (file_variables s))) (c.loop-number.invariant s d st top)
     (taken_none (file_variables s) number 1000 none)
 
 pub loop-number-preserved : goal.loop-number-preserved
@@ -19,12 +19,12 @@ loop-number-preserved g c s d st top =
     let number = c.loop-number.number in
     let all = take 1000 (file_variables s) in
     let (v, is, shows) = named s d c.args.top (slice_get (file_variables s) number) c.in-Some.named (c.in-Some.ensures s d st top) in
-    told_next s d c.args.top place.OfFile _ (map variable_view c.loop-number.told.items) _ number (drop number all) _ v _ (c.loop-number.invariant s d st top)
+    told_next c.args.form s d c.args.top place.OfFile _ (map variable_view c.loop-number.told.items) _ number (drop number all) _ v _ (c.loop-number.invariant s d st top)
     (taken_at (file_variables s) number 1000 v is c.loop-number-test.true ∙ ap (λ n. v ∷ drop n all) (sym (add-one number))) c.reference_of-reference.ensures
     (c.in_ok-push_found-in-Some.ensures s d v st shows)
 
 pub returns : goal.returns
 returns g c s d st top =
     let number = c.loop-number.number in
-    told_last s d c.args.top place.OfFile _ (map variable_view c.loop-number.told.items) number (drop number (take 1000 (file_variables s))) (c.loop-number.invariant s d st top)
+    told_last c.args.form s d c.args.top place.OfFile _ (map variable_view c.loop-number.told.items) number (drop number (take 1000 (file_variables s))) (c.loop-number.invariant s d st top)
     (taken_all (file_variables s) number 1000 (omega (arith, c.loop-number-test.false)))

@@ -9,5 +9,5 @@ use Rattle.adapter_replies.proofs.scopes.of_file.Given as goal
 abbrev pub invariant-loop-number : goal.invariant-loop-number
 invariant-loop-number g l =
     (s : Setting) (d : Debugger) → g.M.RecordedMachine.stands l.machine s d → l.top ≡ depth (now s d)
-    → told_each s d l.top place.OfFile 0 (take 1000 (file_variables s))
-    ≡ map variable_view l.told.items ++ told_each s d l.top place.OfFile l.number (drop l.number (take 1000 (file_variables s)))
+    → told_each l.form s d l.top place.OfFile 0 (take 1000 (file_variables s))
+    ≡ map variable_view l.told.items ++ told_each l.form s d l.top place.OfFile l.number (drop l.number (take 1000 (file_variables s)))

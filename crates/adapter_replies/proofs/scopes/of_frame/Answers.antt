@@ -10,9 +10,9 @@ returns g c s d st =
     let deep = c.args.depth in
     let at = place.Parts c.args.scope deep in
     let from = of_scope c.args.scope (g.M.FramedMachine.locals_at c.args.machine.now s d deep) (g.M.FramedMachine.parameters_at c.args.machine.now s d deep) in
-    told_last s d deep at (told_each s d deep at 0 (from 0)) (map variable_view c.loop-next.told.items) c.loop-next.number (from c.loop-next.from) (c.loop-next.invariant.0 s d st)
+    told_last c.args.form s d deep at (told_each c.args.form s d deep at 0 (from 0)) (map variable_view c.loop-next.told.items) c.loop-next.number (from c.loop-next.from) (c.loop-next.invariant.0 s d st)
     (c.in_default.ensures.next s d st)
-    ∙ ap (told_each s d deep at 0) (c.in_default.ensures.all s d st)
+    ∙ ap (told_each c.args.form s d deep at 0) (c.in_default.ensures.all s d st)
 
 pub loop-next-preserved : goal.loop-next-preserved
 loop-next-preserved g c = (
@@ -21,7 +21,7 @@ loop-next-preserved g c = (
       let at = place.Parts c.args.scope deep in
       let from = of_scope c.args.scope (g.M.FramedMachine.locals_at c.args.machine.now s d deep) (g.M.FramedMachine.parameters_at c.args.machine.now s d deep) in
       let (v, is, shows) = c.in-Some.ensures.next s d st in
-      told_next s d deep at _ (map variable_view c.loop-next.told.items) _ c.loop-next.number (from c.loop-next.from) _ v _ (c.loop-next.invariant.0 s d st)
+      told_next c.args.form s d deep at _ (map variable_view c.loop-next.told.items) _ c.loop-next.number (from c.loop-next.from) _ v _ (c.loop-next.invariant.0 s d st)
       (is ∙ ap (λ n. v ∷ from n) (sym c.place_after-from.ensures)) c.reference_of-reference.ensures
       (c.in_ok-push_found.ensures s d v st (subst (λ named. ShowsNamedAt s d deep v named) (sym c.variable_here-named.ensures) shows)),
   omega (arith, c.loop-next.invariant.1, c.in-Some.ensures.further, c.place_after-from.ensures),

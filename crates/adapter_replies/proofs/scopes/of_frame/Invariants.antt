@@ -8,9 +8,9 @@ use Rattle.adapter_replies.proofs.scopes.of_frame.Given as goal
 abbrev pub invariant-loop-next : goal.invariant-loop-next
 invariant-loop-next g l =
     ((s : Setting) (d : Debugger) → g.M.RecordedMachine.stands l.machine s d
-    → told_each s d l.depth (place.Parts l.scope l.depth) 0 (of_scope l.scope (g.M.FramedMachine.locals_at l.machine s d l.depth) (g.M.FramedMachine.parameters_at l.machine s d l.depth) 0)
+    → told_each l.form s d l.depth (place.Parts l.scope l.depth) 0 (of_scope l.scope (g.M.FramedMachine.locals_at l.machine s d l.depth) (g.M.FramedMachine.parameters_at l.machine s d l.depth) 0)
     ≡ map variable_view l.told.items
-    ++ told_each s d l.depth (place.Parts l.scope l.depth) l.number (of_scope l.scope (g.M.FramedMachine.locals_at l.machine s d l.depth) (g.M.FramedMachine.parameters_at l.machine s d l.depth) l.from))
+    ++ told_each l.form s d l.depth (place.Parts l.scope l.depth) l.number (of_scope l.scope (g.M.FramedMachine.locals_at l.machine s d l.depth) (g.M.FramedMachine.parameters_at l.machine s d l.depth) l.from))
     × (l.number ≤ l.from)
 
 abbrev pub decreases-loop-next : goal.decreases-loop-next

@@ -15,7 +15,7 @@ returns-in_ok-named_of-in-Variables g c s d st =
     (ap (map variable_view) c.in_ok-named_of-in-Variables.ensures
     ∙ map_named variable_view page told
     ∙ ap (told_scope page) (c.in_ok-told-in-Variables.ensures s d st))
-    ∙ ap (told_of page s d) (sym at)
+    ∙ ap (told_of c.args.form page s d) (sym at)
 
 pub returns-in_ok-named_of-in-File : goal.returns-in_ok-named_of-in-File
 returns-in_ok-named_of-in-File g c s d st =
@@ -26,5 +26,5 @@ returns-in_ok-named_of-in-File g c s d st =
     ap Some
     (ap (map variable_view) c.in_ok-named_of-in-File.ensures
     ∙ map_named variable_view page told
-    ∙ ap (told_scope page) (c.in_ok-told-in-File.ensures s d st top ∙ ap (λ n. told_each s d n place.OfFile 0 (take 1000 (file_variables s))) top))
-    ∙ ap (told_of page s d) (sym at)
+    ∙ ap (told_scope page) (c.in_ok-told-in-File.ensures s d st top ∙ ap (λ n. told_each c.args.form s d n place.OfFile 0 (take 1000 (file_variables s))) top))
+    ∙ ap (told_of c.args.form page s d) (sym at)
