@@ -1,11 +1,11 @@
 """The program over the other record of old words: each stored run gives what it gives over the first.
 
 The program keeps its history in a `DeltaRing`, the old words of each event. Here it is built once more, over a `SnapshotRing`, which keeps
-whole copies of the words: in a copy of the sources in which nothing else is another.
+whole copies of the words: in a copy of the sources in which `run` names that record, and nothing else is another. That `run_over` does the same
+over both is proved. What is left to show here is what no clause says: that memory is found, and what `ispc_cli` does around `run`.
 """
 
 import pathlib
-import re
 import shutil
 import tempfile
 
@@ -14,20 +14,18 @@ from .meant import is_run
 from .tried import Result
 
 NAME = "over snapshots"
-FILE = "crates/ispc_debugger/src/opening.rt"
-# This names the record, and makes none.
-NAMING = "crates/ispc_debugger/src/whole.rt"
-MADE = re.compile(r"DeltaRing::new\(\s*(alloc,\s*prepared\.words\(\),\s*options\.history as usize),\s*prepared\.cells::<W>\(\),\s*\)")
+FILE = "crates/ispc_debugger/src/running.rt"
+# `run` is this instance of `run_over`, whose clauses hold over any record.
+INSTANCE = "run_over::<DeltaRing, R, O>("
 
 
 def other(text):
-    """The text of the file that makes the record, with the other one; None where it makes none, or several."""
-    changed, count = MADE.subn(r"SnapshotRing::new(\1)", text)
-    return changed.replace("DeltaRing", "SnapshotRing") if count == 1 else None
+    """The text of the file in which `run` names its record, with the other one; None where it names none, or several."""
+    return text.replace("DeltaRing", "SnapshotRing") if text.count(INSTANCE) == 1 else None
 
 
 def laid(folder, root, listed):
-    """The folder of the program in a copy of the sources, or None where no record is made in them."""
+    """The folder of the program in a copy of the sources, or None where `run` is no such instance."""
     changed = other((root / FILE).read_text(encoding="utf-8"))
     if changed is None:
         return None
@@ -35,8 +33,6 @@ def laid(folder, root, listed):
         shutil.copytree(crate.folder / "src", folder / "crates" / crate.name / "src")
     shutil.copy(root / "crates.txt", folder)
     (folder / FILE).write_text(changed, encoding="utf-8")
-    naming = (root / NAMING).read_text(encoding="utf-8")
-    (folder / NAMING).write_text(naming.replace("DeltaRing", "SnapshotRing"), encoding="utf-8")
     return folder / "crates" / program.CRATE
 
 
@@ -51,7 +47,7 @@ def results(root, listed):
     with tempfile.TemporaryDirectory(prefix="records-") as made:
         folder = laid(pathlib.Path(made), root, listed)
         if folder is None:
-            return [Result(NAME, False, [f"{FILE} makes no DeltaRing, or several"])]
+            return [Result(NAME, False, [f"{FILE} has no {INSTANCE}, or several"])]
         return built.runs(Copy(crate.name, folder), stored(root))
 
 

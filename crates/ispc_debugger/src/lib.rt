@@ -2,6 +2,7 @@
 #![tactic(auto)]
 
 mod opening;
+mod records;
 mod running;
 mod whole;
 
@@ -9,6 +10,8 @@ pub use ispc_options::{Options, Paths, Width, read_options};
 pub use ispc_refusals::{Refusal, write_refusal};
 pub use ispc_script::split_script;
 pub use opening::{ProgramSession, open_machine, open_session};
-pub use running::run;
+pub use records::NewRecord;
+pub use running::{run, run_over};
 pub use transcript::Ending;
+pub use undo_log::{DeltaRing, SnapshotRing};
 pub use whole::{WholeSession, open_whole_session};

@@ -14,8 +14,10 @@ ghost use Rattle.codegen.specs.Programs.{IsRunnable};
 ghost use Rattle.gang_machine.specs.Standings.{Stands};
 ghost use Rattle.ispc_compiler.specs.Front.{Compiles};
 ghost use Rattle.ispc_options.specs.Ranges.{AreInRange};
+ghost use Rattle.ispc_debugger.specs.Records.{Fit};
 ghost use Rattle.ispc_debugger.specs.Runs.{AreAcceptedAs, AreAcceptedOnce, AreNotAccepted, IsRight, IsRightForInput, asked_of, lanes_of, options_view, told};
 
+use crate::records::NewRecord;
 use debug_inputs::{InputFault, read_inputs};
 use debug_session::Session;
 use gang_machine::{Machine, PreparedProgram, open};
@@ -54,7 +56,25 @@ pub fn open_session<const W: usize>(
     // Where they are refused they have none, unless memory ran out.
     ensures none { IfErr result (λ refusal. (refusal ≡ Refusal.Memory) ⊎ AreNotAccepted source.now (asked_of options.now) input.now) }
 {
-    let machine = open_machine::<W>(alloc, source, input, options)?;
+    open_session_over::<W, DeltaRing>(alloc, source, input, options)
+}
+
+/// Such a session over a record of any kind.
+pub(crate) fn open_session_over<const W: usize, T: NewRecord>(
+    alloc: Global,
+    source: &[u8],
+    input: &[u8],
+    options: &Options<'_>,
+) -> Result<Session<Machine<W, T>>, Refusal>
+    requires width { W ≡ lanes_of options.now.width }
+    requires range { AreInRange options.now }
+    requires fits { Fit W.row T.row T.Timeline }
+    ensures opened { IfOk result (λ session. (program : ModelProgram) × (entry : ℕ) × (rows : List Row)
+        × AreAcceptedAs source.now (asked_of options.now) input.now program entry rows
+        × StandsFor Stands session (setting program entry rows (options_view options.now)) (fresh options.now.history)) }
+    ensures refused { IfErr result (IsRight source.now (asked_of options.now) input.now) }
+{
+    let machine = open_machine_over::<W, T>(alloc, source, input, options)?;
     Ok(Session::open(machine, options.steps))
 }
 
@@ -80,11 +100,29 @@ pub fn open_machine<const W: usize>(
     // Where they are refused they have none, unless memory ran out.
     ensures none { IfErr result (λ refusal. (refusal ≡ Refusal.Memory) ⊎ AreNotAccepted source.now (asked_of options.now) input.now) }
 {
+    open_machine_over::<W, DeltaRing>(alloc, source, input, options)
+}
+
+/// Such a machine over a record of any kind.
+fn open_machine_over<const W: usize, T: NewRecord>(
+    alloc: Global,
+    source: &[u8],
+    input: &[u8],
+    options: &Options<'_>,
+) -> Result<Machine<W, T>, Refusal>
+    requires width { W ≡ lanes_of options.now.width }
+    requires range { AreInRange options.now }
+    requires fits { Fit W.row T.row T.Timeline }
+    ensures opened { IfOk result (λ machine. (program : ModelProgram) × (entry : ℕ) × (rows : List Row)
+        × AreAcceptedAs source.now (asked_of options.now) input.now program entry rows
+        × Stands machine (setting program entry rows (options_view options.now)) (fresh options.now.history)) }
+    ensures refused { IfErr result (IsRight source.now (asked_of options.now) input.now) }
+{
     match compile_source(alloc, source, asked_entry(options)) {
         Err(SourceFault::Refused(refusal)) => Err(Refusal::Source(refusal)),
         Err(SourceFault::Memory) => Err(Refusal::Memory),
         Ok(None) => Err(Refusal::NoEntry),
-        Ok(Some(compiled)) => open_compiled::<W>(alloc, compiled, input, options),
+        Ok(Some(compiled)) => open_compiled::<W, T>(alloc, compiled, input, options),
     }
 }
 
@@ -96,15 +134,16 @@ fn asked_entry<'a>(options: &Options<'a>) -> Option<&'a [u8]>
 }
 
 /// The machine of a compiled source at a width, with an input.
-fn open_compiled<const W: usize>(
+fn open_compiled<const W: usize, T: NewRecord>(
     alloc: Global,
     compiled: Compiled,
     input: &[u8],
     options: &Options<'_>,
-) -> Result<Machine<W, DeltaRing>, Refusal>
+) -> Result<Machine<W, T>, Refusal>
     requires width { W ≡ lanes_of options.now.width }
     requires compiled { (text : List ℕ) × (asked : Option Name) × Compiles text asked (Some compiled) }
     requires range { AreInRange options.now }
+    requires fits { Fit W.row T.row T.Timeline }
     ensures opened { IfOk result (λ machine. (rows : List Row) × (rows_of (program_view compiled.program) compiled.entry.0 input.now ≡ Ok rows)
         × Stands machine (setting (program_view compiled.program) compiled.entry.0 rows (options_view options.now)) (fresh options.now.history)) }
     ensures refused { IfErr result (IsRightForInput (rows_of (program_view compiled.program) compiled.entry.0 input.now)) }
@@ -113,7 +152,7 @@ fn open_compiled<const W: usize>(
         Ok(rows) => rows,
         Err(fault) => return Err(refused_input(fault)),
     };
-    match begun::<W>(alloc, compiled, &rows, options) {
+    match begun::<W, T>(alloc, compiled, &rows, options) {
         Err(_) => Err(Refusal::Memory),
         Ok(machine) => Ok(machine),
     }
@@ -130,27 +169,28 @@ fn refused_input(fault: InputFault) -> Refusal
 }
 
 /// The machine of a program at a width, before its first step.
-fn begun<const W: usize>(
+fn begun<const W: usize, T: NewRecord>(
     alloc: Global,
     compiled: Compiled,
     rows: &[InputRow],
     options: &Options<'_>,
-) -> Result<Machine<W, DeltaRing>, AllocError>
+) -> Result<Machine<W, T>, AllocError>
     requires width { IsGangWidth W }
     requires runnable { IsRunnable compiled.program }
     requires begins { (f : Function) × (given : List Row) × MayBegin compiled.program compiled.entry.0 f given rows.now }
     requires range { AreInRange options.now }
+    requires fits { Fit W.row T.row T.Timeline }
     ensures { (f : Function) (given : List Row) → MayBegin compiled.program compiled.entry.0 f given rows.now → IfOk result (λ machine. Stands machine
         (setting (program_view compiled.program) compiled.entry.0 given (record { width = W; history = options.now.history; steps = options.now.steps }))
         (fresh options.now.history)) }
 {
     let prepared = PreparedProgram::new::<W>(alloc, compiled.program, compiled.entry, rows)?;
-    let timeline = DeltaRing::new(
+    let timeline = T::with_room(
         alloc,
         prepared.words(),
         options.history as usize,
         prepared.cells::<W>(),
     )?;
-    let machine = open::<W, DeltaRing>(alloc, prepared, compiled.entry, rows, timeline)?;
+    let machine = open::<W, T>(alloc, prepared, compiled.entry, rows, timeline)?;
     Ok(machine)
 }

@@ -1,9 +1,10 @@
 //! A row, and the run that answers it.
 ghost use Rattle.std.specs.Prelude.{◌≡◌, IfErr, false};
+ghost use Rattle.ispc_debugger.specs.Records.{FitAtEachWidth};
 
 use crate::wanted::WantedWriter;
 use debug_traits::CommandReader;
-use ispc_debugger::run;
+use ispc_debugger::{NewRecord, run_over};
 use ispc_options::read_options;
 use ispc_refusals::{Refusal, write_refusal};
 use lane_report::report;
@@ -37,19 +38,22 @@ impl<'a> Row<'a> {
         })
     }
 
-    /// Whether the run writes the row's text and nothing else, and ends at `quit`, with the commands, or refused.
-    pub(crate) fn is_answered(&self, alloc: Global) -> bool {
+    /// Whether the run, over a record of this kind, writes the row's text and nothing else, and ends at `quit`, with the commands, or
+    /// refused.
+    pub(crate) fn is_answered<T: NewRecord>(&self, alloc: Global) -> bool
+        requires { FitAtEachWidth T.row T.Timeline }
+    {
         let mut reader = PieceReader::new(self.commands, 64, self.commands.len() + 1);
         let mut writer = WantedWriter::new(self.text);
-        let has_ended = match self.ending(alloc, &mut reader, &mut writer) {
+        let has_ended = match self.ending::<T, PieceReader<'_>>(alloc, &mut reader, &mut writer) {
             Ok(ending) => matches!(ending, Ending::Quit | Ending::EndOfCommands),
             Err(refusal) => write_refusal(&refusal, &mut writer).is_ok(),
         };
         has_ended && writer.rest().is_empty()
     }
 
-    /// How the run ends, or the report.
-    pub(crate) fn ending<'w, R: CommandReader<WantedWriter<'w>>>(
+    /// How the run over a record of this kind ends, or the report.
+    pub(crate) fn ending<'w, T: NewRecord, R: CommandReader<WantedWriter<'w>>>(
         &self,
         alloc: Global,
         reader: &mut R,
@@ -58,6 +62,7 @@ impl<'a> Row<'a> {
         requires fresh { R.reads reader.old ≡ 0 }
         requires reader_works { R.has_failed reader.old ≡ false }
         requires writer_works { writer.old.has_failed ≡ false }
+        requires fits { FitAtEachWidth T.row T.Timeline }
         ensures { IfErr result (λ _. writer.new.has_failed ≡ false) }
     {
         let words: Result<Vec<&str>, AllocError> = self
@@ -73,7 +78,14 @@ impl<'a> Row<'a> {
         if options.lane_pure {
             report(alloc, self.source, writer)
         } else {
-            run(alloc, self.source, self.input, &options, reader, writer)
+            run_over::<T, R, WantedWriter<'w>>(
+                alloc,
+                self.source,
+                self.input,
+                &options,
+                reader,
+                writer,
+            )
         }
     }
 }

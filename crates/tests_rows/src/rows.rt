@@ -1,21 +1,43 @@
 //! Each worked row is answered as it was worked out.
+ghost use Rattle.ispc_debugger.specs.Records.{FitAtEachWidth};
+
 use crate::row::Row;
 use crate::table::{
     assertions, control, debugger, divisions, forms, indices, input_ends, inputs, lane_indices,
     library, order, refusals, runs, statements,
 };
 use crate::wanted::WantedWriter;
+use ispc_debugger::{DeltaRing, NewRecord, SnapshotRing};
 use std::alloc::Global;
 use tests_devices::PieceReader;
 use transcript::Ending;
 
-/// The name of the first row of a table that is not answered, or a piece of it that is no row.
-fn unanswered(alloc: Global, table: &str) -> Option<&str> {
+const TABLES: [&str; 14] = [
+    assertions::ROWS,
+    control::ROWS,
+    debugger::ROWS,
+    divisions::ROWS,
+    forms::ROWS,
+    indices::ROWS,
+    input_ends::ROWS,
+    inputs::ROWS,
+    lane_indices::ROWS,
+    library::ROWS,
+    order::ROWS,
+    refusals::ROWS,
+    runs::ROWS,
+    statements::ROWS,
+];
+
+/// The name of the first row of a table that is not answered over a record of this kind, or a piece of it that is no row.
+fn unanswered<T: NewRecord>(alloc: Global, table: &str) -> Option<&str>
+    requires { FitAtEachWidth T.row T.Timeline }
+{
     for piece in table.split("$\n") {
         let Some(row) = Row::read(piece) else {
             return if piece.is_empty() { None } else { Some(piece) };
         };
-        if !row.is_answered(alloc) {
+        if !row.is_answered::<T>(alloc) {
             return Some(row.name);
         }
     }
@@ -24,24 +46,15 @@ fn unanswered(alloc: Global, table: &str) -> Option<&str> {
 
 #[test]
 fn each_row_is_answered(rt: HostRuntime) {
-    let tables = [
-        assertions::ROWS,
-        control::ROWS,
-        debugger::ROWS,
-        divisions::ROWS,
-        forms::ROWS,
-        indices::ROWS,
-        input_ends::ROWS,
-        inputs::ROWS,
-        lane_indices::ROWS,
-        library::ROWS,
-        order::ROWS,
-        refusals::ROWS,
-        runs::ROWS,
-        statements::ROWS,
-    ];
-    for table in tables {
-        assert_eq!(rt; unanswered(rt.alloc(), table), None);
+    for table in TABLES {
+        assert_eq!(rt; unanswered::<DeltaRing>(rt.alloc(), table), None);
+    }
+}
+
+#[test]
+fn each_row_is_answered_over_whole_copies(rt: HostRuntime) {
+    for table in TABLES {
+        assert_eq!(rt; unanswered::<SnapshotRing>(rt.alloc(), table), None);
     }
 }
 
@@ -60,7 +73,7 @@ fn a_read_that_fails_leaves_the_answers_before_it(rt: HostRuntime) {
     for given in 0..row.commands.len() {
         let mut reader = PieceReader::new(row.commands, 7, given);
         let mut writer = WantedWriter::new(row.text);
-        let end = row.ending(rt.alloc(), &mut reader, &mut writer);
+        let end = row.ending::<DeltaRing, PieceReader<'_>>(rt.alloc(), &mut reader, &mut writer);
         assert_eq!(rt; end, Ok(Ending::ReadFault), "at {given}");
         assert_eq!(rt;
             lines(writer.rest()),

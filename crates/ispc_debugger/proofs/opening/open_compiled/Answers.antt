@@ -21,7 +21,7 @@ begun-requires g c =
     let (source, asked, is) = c.requires.compiled in
     let (given, read, are) = c.in-Ok.ensures in
     let (f, may) = may_begin source asked c.args.compiled is c.args.input.now given c.deref.result.now read (subst (AreRows given) (sym c.deref.ensures.value) are) in
-    (omega arith, (gang_width c.args.options.now.width g.row.W c.requires.width, (is.2.runnable, ((f, given, may), c.requires.range))))
+    (omega arith, (gang_width c.args.options.now.width g.row.W c.requires.width, (is.2.runnable, ((f, given, may), (c.requires.range, c.requires.fits)))))
 
 -- and stands for the debugger that begins with them, at the width of the options
 pub returns-clause-opened : goal.returns-clause-opened

@@ -1,12 +1,11 @@
-use Rattle.std.proofs.Common.{refl}
-use Rattle.gang_model.specs.Debugger.Debugger.{fresh}
-use Rattle.gang_model.specs.Texts.Transcript.{setting}
-use Rattle.ispc_debugger.specs.Runs.{options_view}
+use Rattle.std.proofs.lemmas.Result.{IfErr-weaker}
+use Rattle.ispc_debugger.specs.Runs.{asked_of}
+use Rattle.ispc_debugger.proofs.Accepted.{not_accepted, once}
 use Rattle.ispc_debugger.proofs.opening.open_session.Goals as goal
 
--- the session begins over the machine
-pub returns-clause-opened : goal.returns-clause-opened
-returns-clause-opened g c =
-    let options = c.args.options.now in
-    let (program, entry, rows, are, stands) = c.in_ok-machine.ensures.opened in
-    (program, entry, rows, are, c.open.ensures (setting program entry rows (options_view options)) (fresh options.history) stands refl refl refl)
+pub returns-clause-one : goal.returns-clause-one
+returns-clause-one g c = once c.args.source.now (asked_of c.args.options.now) c.args.input.now
+
+pub returns-clause-none : goal.returns-clause-none
+returns-clause-none g c =
+    IfErr-weaker c.open_session_over.result _ _ (λ refusal right. not_accepted c.args.source.now (asked_of c.args.options.now) c.args.input.now refusal right) c.open_session_over.ensures.refused

@@ -1,7 +1,7 @@
 use Rattle.std.proofs.lemmas.Result.{IfErr-weaker, IfOk-weaker}
 use Rattle.ispc_debugger.specs.Runs.{asked_of, options_view}
 use Rattle.ispc_debugger.proofs.Accepted.{not_accepted, once, one_transcript}
-use Rattle.ispc_debugger.proofs.running.run.Goals as goal
+use Rattle.ispc_debugger.proofs.running.run_over.Goals as goal
 
 pub returns-in-Four-clause-one : goal.returns-in-Four-clause-one
 returns-in-Four-clause-one g c = once c.args.source.now (asked_of c.args.options.now) c.args.input.now
