@@ -108,10 +108,10 @@ given numbers came asked table = numbered asked came (kept numbers table)
 abbrev pub given_logs : (numbers came : List ℕ) → List Asked → List Log → List Log
 given_logs numbers came asked logs = logged asked came (kept_logs numbers logs)
 
--- the numbers of functions' breakpoints, where those of a kind came
-abbrev pub functions_after : Kind → (came old : List ℕ) → List ℕ
-functions_after Functions came old = with_numbers came []
-functions_after kind came old = old
+-- the numbers of functions' breakpoints, where those of a kind came: of the others those that stand
+abbrev pub functions_after : Kind → (numbers came old : List ℕ) → List ℕ
+functions_after Functions numbers came old = with_numbers came []
+functions_after kind numbers came old = carried_functions old numbers numbers []
 
 -- where stops of a kind came in place of others: all have these numbers then
 abbrev pub changed : Kind → (numbers came : List ℕ) → List Asked → Terms → Terms
@@ -120,7 +120,7 @@ changed kind numbers came asked terms = record {
   left = silenced (given_logs numbers came asked terms.logs) (given numbers came asked terms.left);
   logs = given_logs numbers came asked terms.logs;
   log_left = given numbers came asked terms.log_left;
-  functions = functions_after kind came terms.functions;
+  functions = functions_after kind numbers came terms.functions;
 }
 
 -- those that came stand behind those that stayed

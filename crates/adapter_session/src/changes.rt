@@ -3,7 +3,7 @@ ghost use Rattle.std.specs.Prelude.{◌≡◌, ◌++◌, ◌∷◌, [], List, no
 ghost use Rattle.gang_model.specs.Debugger.Debugger as model;
 ghost use Rattle.gang_model.specs.Debugger.Debugger.{Debugger, Setting};
 ghost use Rattle.debug_answers.specs.Meanings.{AreStops};
-ghost use Rattle.debug_session.specs.Sessions.{StandsFor};
+ghost use Rattle.debug_session.specs.Sessions.{StandsFor, bare};
 ghost use Rattle.typed_tree.specs.Views.{program_view};
 ghost use Rattle.adapter_session.specs.Changes as spec;
 ghost use Rattle.adapter_session.specs.Changes.{asked_view, change_view, of_function, of_line, of_watch, text_of};
@@ -54,25 +54,64 @@ pub(crate) fn change_of<'a, M: ExpressionMachine>(
     ensures { (s : Setting) (d : Debugger) → StandsFor M.stands session.now s d
         → IfOk result (λ change. option_map change_view change ≡ spec.change_of s path.now functions.now d request.now) }
 {
-    let machine = session.machine();
     match request {
         Request::SetBreakpoints { source, lines } => {
-            if !is_program(path, *source) {
-                return Ok(None);
+            if is_program(path, *source) {
+                Ok(Some(change_lines(alloc, functions, session, lines)?))
+            } else {
+                Ok(None)
             }
-            let asked = asked_lines(alloc, machine, lines)?;
-            Ok(Some(change(Kind::Lines, functions, session.stops(), asked)))
         }
-        Request::SetFunctionBreakpoints { functions: entries } => {
-            let asked = asked_functions(alloc, machine.program(), entries)?;
-            Ok(Some(change(Kind::Functions, functions, session.stops(), asked)))
-        }
-        Request::SetDataBreakpoints { targets } => {
-            let asked = asked_watches(alloc, machine, targets)?;
-            Ok(Some(change(Kind::Watches, functions, session.stops(), asked)))
-        }
+        Request::SetFunctionBreakpoints { functions: entries } => Ok(Some(change_functions(
+            alloc, functions, session, entries,
+        )?)),
+        Request::SetDataBreakpoints { targets } => Ok(Some(change_watches(
+            alloc, functions, session, targets,
+        )?)),
         _ => Ok(None),
     }
+}
+
+/// Breakpoints of lines in place of those that there are.
+fn change_lines<'a, M: RecordedMachine>(
+    alloc: Global,
+    functions: &[u32],
+    session: &Session<M>,
+    lines: &[Result<LineBreakpoint<'a>, BreakpointFault>],
+) -> Result<Change<'a>, AllocError>
+    ensures { (s : Setting) (d : Debugger) → StandsFor M.stands session.now s d
+        → IfOk result (λ made. change_view made ≡ spec.change Kind.Lines functions.now d.stops (flat_map (of_line s) lines.now)) }
+{
+    let asked = asked_lines(alloc, session.machine(), lines)?;
+    Ok(change(Kind::Lines, functions, session.stops(), asked))
+}
+
+/// Breakpoints of functions in place of those that there are.
+fn change_functions<'a, M: ExpressionMachine>(
+    alloc: Global,
+    functions: &[u32],
+    session: &Session<M>,
+    entries: &[Result<FunctionBreakpoint<'a>, BreakpointFault>],
+) -> Result<Change<'a>, AllocError>
+    ensures { (s : Setting) (d : Debugger) → StandsFor M.stands session.now s d
+        → IfOk result (λ made. change_view made ≡ spec.change Kind.Functions functions.now d.stops (flat_map (of_function s.program) entries.now)) }
+{
+    let asked = asked_functions(alloc, session.machine().program(), entries)?;
+    Ok(change(Kind::Functions, functions, session.stops(), asked))
+}
+
+/// Watches in place of those that there are.
+fn change_watches<'a, M: RecordedMachine>(
+    alloc: Global,
+    functions: &[u32],
+    session: &Session<M>,
+    targets: &[Result<DataBreakpoint<'a>, BreakpointFault>],
+) -> Result<Change<'a>, AllocError>
+    ensures { (s : Setting) (d : Debugger) → StandsFor M.stands session.now s d
+        → IfOk result (λ made. change_view made ≡ spec.change Kind.Watches functions.now d.stops (flat_map (of_watch s (bare d)) targets.now)) }
+{
+    let asked = asked_watches(alloc, session.machine(), targets)?;
+    Ok(change(Kind::Watches, functions, session.stops(), asked))
 }
 
 /// Stops of a kind in place of those that there are.

@@ -63,25 +63,28 @@ impl Terms {
             (change_view change.now).asked (terms_of self.old) }
     {
         let came = behind(stops, change.staying);
-        let asked = change.asked.as_slice();
-        let terms = given(self.logs.terms(), stops, came, asked);
-        let logs = given_logs(&self.logs, stops, came, asked, terms);
-        self.left = silenced(&logs, given(&self.left, stops, came, asked));
-        self.asked = given(&self.asked, stops, came, asked);
-        self.logs = logs;
-        self.change_functions(change.kind, came);
+        let changed = self.changed(change.kind, stops, came, change.asked.as_slice());
+        *self = changed;
     }
 
-    /// Notes which breakpoints are functions', where those of a kind came.
-    fn change_functions(&mut self, kind: Kind, came: &[NumberedStop])
-        ensures functions { self.new.functions.items ≡ spec.functions_after kind (all_numbers came.now) self.old.functions.items }
-        ensures asked { self.new.asked ≡ self.old.asked }
-        ensures left { self.new.left ≡ self.old.left }
-        ensures logs { self.new.logs ≡ self.old.logs }
+    /// Those of stops that stand, of which some of a kind came.
+    fn changed(
+        &self,
+        kind: Kind,
+        stops: &[NumberedStop],
+        came: &[NumberedStop],
+        asked: &[Asked<'_>],
+    ) -> Self
+        ensures { terms_of result ≡ spec.changed kind (all_numbers stops.now) (all_numbers came.now) (map asked_view asked.now) (terms_of self.now) }
     {
-        match kind {
-            Kind::Functions => self.functions = numbers(came),
-            Kind::Lines | Kind::Watches => {}
+        let terms = given(self.logs.terms(), stops, came, asked);
+        let logs = given_logs(&self.logs, stops, came, asked, terms);
+        let left = given(&self.left, stops, came, asked);
+        Terms {
+            asked: given(&self.asked, stops, came, asked),
+            left: silenced(&logs, left),
+            logs,
+            functions: functions_after(self.functions.as_slice(), kind, stops, came),
         }
     }
 
@@ -170,6 +173,21 @@ fn bytes_of(text: Option<&str>) -> Option<&[u8]>
     match text {
         Some(text) => Some(text.as_bytes()),
         None => None,
+    }
+}
+
+/// The numbers of functions' breakpoints, where stops of a kind came.
+fn functions_after(
+    functions: &[u32],
+    kind: Kind,
+    stops: &[NumberedStop],
+    came: &[NumberedStop],
+) -> ArrayVec<u32, ROOM>
+    ensures { result.items ≡ spec.functions_after kind (all_numbers stops.now) (all_numbers came.now) functions.now }
+{
+    match kind {
+        Kind::Functions => numbers(came),
+        Kind::Lines | Kind::Watches => carried_functions(functions, stops, stops),
     }
 }
 
