@@ -280,8 +280,8 @@ on_a_condition s = refl
 on_its_line : on_function on_two_lines (Some 6) ≡ breakpoint_of on_two_lines (Some 6)
 on_its_line = refl
 
-no_function : on_function on_two_lines None ≡ Refused fault.NoFunction
-no_function = refl
+not_a_function : on_function on_two_lines None ≡ Refused fault.NoFunction
+not_a_function = refl
 
 -- ---- watches
 
