@@ -1,5 +1,6 @@
 -- Worked rows of lanes as threads.
 use Rattle.std.proofs.Common.{◌≡◌, refl, ℕ, true, false, List, [], ◌∷◌, Some, None, codes}
+use Rattle.std.specs.Fmt.{digits}
 use Rattle.gang_types.specs.declared.faults.FaultName.{FaultName}
 use Rattle.gang_types.specs.Lanes.{Lanes}
 use Rattle.gang_model.specs.Running.State.{Frame, State}
@@ -11,10 +12,12 @@ use Rattle.adapter_replies.specs.Threads.{is_in, lane_of, lane_threads, stop_thr
 
 two_wait : lane_threads (false ∷ true ∷ false ∷ true ∷ []) 4
     ≡ (1, codes "lane 0 (waits)") ∷ (2, codes "lane 1") ∷ (3, codes "lane 2 (waits)") ∷ (4, codes "lane 3") ∷ []
+unfolding digits
 two_wait = refl
 
 -- once the program has ended none waits
 at_the_end : lane_threads [] 2 ≡ (1, codes "lane 0") ∷ (2, codes "lane 1") ∷ []
+unfolding digits
 at_the_end = refl
 
 last_lane : lane_of 4 (Some 4) ≡ Some 3

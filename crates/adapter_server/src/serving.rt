@@ -174,7 +174,8 @@ impl<R: Read, O: Write> Connection<R, O> {
             self.restart = head.number;
             return Ok(Turn::Restarts);
         }
-        if let Some(reply) = told_aside(self.alloc, launch, session, self.stopped, request)? {
+        let reply = told_aside(self.alloc, launch, session, self.stopped, request)?;
+        if let Some(reply) = reply {
             self.reply(head, launch.program, &reply)?;
             return Ok(Turn::Goes);
         }
