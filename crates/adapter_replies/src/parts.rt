@@ -5,7 +5,7 @@ ghost use Rattle.gang_types.specs.Masks.{IsGangWidth};
 ghost use Rattle.gang_model.specs.Types.Tree as model;
 ghost use Rattle.gang_model.specs.Debugger.Debugger.{Debugger, Setting};
 ghost use Rattle.debug_traits.specs.Frames.{ShowsNamedAt};
-ghost use Rattle.adapter_replies.specs.Variables.{ShowsOptionAt, has_range, is_outer, is_varying, part_kind, range_count, ranges_in, told_all, told_between, told_of_range, told_option, told_part, told_parts, told_range, told_range_option, told_ranges, lanes_at, type_name, variable_view, words_at};
+ghost use Rattle.adapter_replies.specs.Variables.{ShowsOptionAt, has_range, is_outer, is_varying, part_kind, range_count, ranges_in, told_all, told_between, told_of_range, told_option, told_part, told_parts, told_range, told_range_option, told_ranges, lanes_at, type_name, variable_view, waits_at, words_at};
 ghost use Rattle.adapter_replies.specs.Waiting.{position_lanes};
 
 use crate::forms::Form;
@@ -207,11 +207,19 @@ fn part<M: FramedMachine>(
         name,
         value: element_text(alloc, machine, form, depth, shown, index)?,
         type_name: String::from_str(alloc, type_name(shown.value_type))?,
-        kind: part_kind(!shown.is_array && waits(position, index)),
+        kind: part_kind(waits_at(shown.is_array, position, index)),
         is_constant: shown.is_constant,
         is_read_only: is_outer(machine, depth),
         reference: 0,
     })
+}
+
+/// Whether the part of a variable at an index is a lane that waits; elements of arrays are none.
+fn waits_at(is_array: bool, position: Option<Position<'_>>, index: usize) -> bool
+    requires { IfSome position (λ at. IsGangWidth at.width) }
+    ensures { result ≡ waits_at (position_lanes position.entry) is_array index }
+{
+    !is_array && waits(position, index)
 }
 
 /// A part of a variable that waits, or not.
