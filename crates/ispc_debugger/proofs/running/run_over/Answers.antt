@@ -41,3 +41,12 @@ returns-in-Sixteen-clause-one_transcript g c =
 pub returns-in-Sixteen-clause-none : goal.returns-in-Sixteen-clause-none
 returns-in-Sixteen-clause-none g c =
     IfErr-weaker c.run_wide-in-Sixteen.result _ _ (λ refusal is. not_accepted c.args.source.now (asked_of c.args.options.now) c.args.input.now refusal is.0) c.run_wide-in-Sixteen.ensures.refused
+
+pub run_wide-requires-clause-fits : goal.run_wide-requires-clause-fits
+run_wide-requires-clause-fits g c = c.requires.fits 4
+
+pub run_wide-requires-in-Eight-clause-fits : goal.run_wide-requires-in-Eight-clause-fits
+run_wide-requires-in-Eight-clause-fits g c = c.requires.fits 8
+
+pub run_wide-requires-in-Sixteen-clause-fits : goal.run_wide-requires-in-Sixteen-clause-fits
+run_wide-requires-in-Sixteen-clause-fits g c = c.requires.fits 16
