@@ -4,6 +4,9 @@ use Rattle.adapter_messages.specs.Arguments.{text_of}
 use Rattle.adapter_messages.specs.Faults.{first_missing, page_options}
 use Rattle.adapter_messages.proofs.requests.read_variables.Goals as goal
 
+pub returns-clause-accepted : goal.returns-clause-accepted
+returns-clause-accepted c = (sym c.number_at.ensures ∙ c.in-Some.is, c.page_of.ensures, c.is_hexadecimal.ensures)
+
 pub returns-clause-complete : goal.returns-clause-complete
 returns-clause-complete c =
     let options = page_options (view c.args.message.now) in
