@@ -1,5 +1,5 @@
 //! What the requests ask for that put breakpoints or watches in place of others.
-ghost use Rattle.std.specs.Prelude.{◌≡◌, ◌++◌, ◌∷◌, [], List, not, count_by, flat_map, map, option_map, IfOk, OnOk, None};
+ghost use Rattle.std.specs.Prelude.{◌≡◌, ℕ, ◌++◌, ◌∷◌, [], List, not, count_by, flat_map, map, option_map, IfOk, OnOk, None};
 ghost use Rattle.gang_model.specs.Debugger.Debugger as model;
 ghost use Rattle.gang_model.specs.Debugger.Debugger.{Debugger, Setting};
 ghost use Rattle.debug_answers.specs.Meanings.{AreStops};
@@ -83,7 +83,7 @@ fn change_lines<'a, M: RecordedMachine>(
         → IfOk result (λ made. change_view made ≡ spec.change Kind.Lines functions.now d.stops (flat_map (of_line s) lines.now)) }
 {
     let asked = asked_lines(alloc, session.machine(), lines)?;
-    Ok(change(Kind::Lines, functions, session.stops(), asked))
+    Ok(made_change(Kind::Lines, functions, session.stops(), asked))
 }
 
 /// Breakpoints of functions in place of those that there are.
@@ -97,7 +97,7 @@ fn change_functions<'a, M: ExpressionMachine>(
         → IfOk result (λ made. change_view made ≡ spec.change Kind.Functions functions.now d.stops (flat_map (of_function s.program) entries.now)) }
 {
     let asked = asked_functions(alloc, session.machine().program(), entries)?;
-    Ok(change(Kind::Functions, functions, session.stops(), asked))
+    Ok(made_change(Kind::Functions, functions, session.stops(), asked))
 }
 
 /// Watches in place of those that there are.
@@ -111,12 +111,12 @@ fn change_watches<'a, M: RecordedMachine>(
         → IfOk result (λ made. change_view made ≡ spec.change Kind.Watches functions.now d.stops (flat_map (of_watch s (bare d)) targets.now)) }
 {
     let asked = asked_watches(alloc, session.machine(), targets)?;
-    Ok(change(Kind::Watches, functions, session.stops(), asked))
+    Ok(made_change(Kind::Watches, functions, session.stops(), asked))
 }
 
 /// Stops of a kind in place of those that there are.
 #[tactic(auto, using(crate::proofs::StopNumbers::staying_is))]
-fn change<'a>(
+fn made_change<'a>(
     kind: Kind,
     functions: &[u32],
     stops: &[NumberedStop],

@@ -11,5 +11,5 @@ returns g c s d there =
     let functions = c.args.functions.now in
     let machine = subst (λ machine. g.M.RecordedMachine.stands machine s (bare d)) (sym c.machine.ensures) there.there in
     let are = subst (λ stops. AreStops s stops d.stops) (sym c.stops.ensures) there.stops in
-    c.change.ensures s d.stops are
+    c.made_change.ensures s d.stops are
     ∙ ap (change kind.Functions functions d.stops) (c.in_ok-asked.ensures ∙ ap (λ (p : Program). flat_map (of_function p) c.args.entries.now) (sym (c.program.ensures s (bare d) machine)))

@@ -10,5 +10,5 @@ returns g c s d there =
     let functions = c.args.functions.now in
     let machine = subst (λ machine. g.M.RecordedMachine.stands machine s (bare d)) (sym c.machine.ensures) there.there in
     let are = subst (λ stops. AreStops s stops d.stops) (sym c.stops.ensures) there.stops in
-    c.change.ensures s d.stops are
+    c.made_change.ensures s d.stops are
     ∙ ap (change kind.Watches functions d.stops) (c.in_ok-asked.ensures s (bare d) machine)
