@@ -1,6 +1,6 @@
 use Rattle.std.proofs.Common.{Some, ap, map, refl, subst, sym}
 use Rattle.adapter_replies.specs.Told.{MeansLast}
-use Rattle.conditional_stops.specs.Going.{answer_of, command_of}
+use Rattle.conditional_stops.specs.Going.{command_of}
 use Rattle.conditional_stops.specs.Views.{table_of}
 use Rattle.log_points.specs.Points.{log_of}
 use Rattle.adapter_session.specs.Answered.{MayTell}

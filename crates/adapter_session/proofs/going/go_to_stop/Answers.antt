@@ -1,10 +1,10 @@
 use Rattle.std.proofs.Common.{Some, [], ◌∷◌, sym, subst}
-use Rattle.gang_model.specs.Debugger.Debugger.{DoDelete, Reply, do_command}
+use Rattle.gang_model.specs.Debugger.Debugger.{DoDelete, Reply}
 use Rattle.debug_session.specs.Sessions.{RepliesTo}
 use Rattle.command_lists.proofs.DoneLists.{done_one, done_then}
 use Rattle.adapter_replies.specs.Told.{MeansLast}
 use Rattle.adapter_session.specs.Answered.{IsToldAt, MayTell}
-use Rattle.adapter_session.specs.Going.{is_at, move_of, reached}
+use Rattle.adapter_session.specs.Going.{is_at, move_of}
 use Rattle.adapter_session.proofs.GoingTo.{move_reply, reached_means}
 use Rattle.adapter_session.proofs.going.go_to_stop.Goals as goal
 

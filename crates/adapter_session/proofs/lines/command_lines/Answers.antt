@@ -1,5 +1,4 @@
 use Rattle.std.proofs.Common.{ℕ, List, ap, sym, subst, ◌∙◌}
-use Rattle.gang_model.specs.Debugger.Debugger.{depth, now}
 use Rattle.gang_model.specs.Types.Tree.{Program}
 use Rattle.debug_answers.specs.Meanings.{AreStops}
 use Rattle.debug_session.specs.Sessions.{bare}

@@ -1,4 +1,3 @@
-use Rattle.std.proofs.Common.{ap}
 use Rattle.conditional_stops.specs.Tables.{nothing}
 use Rattle.conditional_stops.specs.Views.{table_of}
 use Rattle.adapter_session.specs.Given.{all_numbers}
