@@ -25,4 +25,4 @@ open-requires g c =
     let fresh = subst (λ n. IsNew n (history c.in_ok-timeline.timeline)) c.words.ensures.layout c.in_ok-timeline.ensures.fresh in
     let some = subst (λ n. 1 ≤ n) (sym c.in_ok-timeline.ensures.limit) c.requires.range.least_history in
     let room = subst (λ n. n ≤ (history c.in_ok-timeline.timeline).room) c.cells.ensures.exact c.in_ok-timeline.ensures.room in
-    (c.requires.fits.0, (c.requires.width, (c.in_ok-prepared.ensures.prepared, ((f, (given, c.in_ok-prepared.ensures.rows f given may)), (fresh, (some, room))))))
+    (c.requires.fits.0, (c.requires.width, (c.in_ok-prepared.ensures.prepared, ((f, given, c.in_ok-prepared.ensures.rows f given may), (fresh, (some, room))))))
