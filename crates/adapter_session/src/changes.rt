@@ -115,7 +115,6 @@ fn change_watches<'a, M: RecordedMachine>(
 }
 
 /// Stops of a kind in place of those that there are.
-#[tactic(auto, using(crate::proofs::StopNumbers::staying_is))]
 fn made_change<'a>(
     kind: Kind,
     functions: &[u32],

@@ -113,7 +113,7 @@ fn silenced(logs: &Logs, table: Conditions) -> Conditions
 }
 
 /// The stops behind so many.
-#[tactic(auto, using(crate::proofs::TermLists::those_behind, crate::proofs::TermLists::none_behind))]
+#[tactic(auto, using(crate::proofs::TermLists::none_behind))]
 fn behind(stops: &[NumberedStop], many: usize) -> &[NumberedStop]
     ensures { all_numbers result.now ≡ drop many (all_numbers stops.now) }
 {
