@@ -1,5 +1,5 @@
 -- The threads that the editor of a launch sees, and what is told of them.
-use Rattle.std.specs.Prelude.{◌≡◌, Option, Some, None, unwrap_or, if◌then◌else◌}
+use Rattle.std.specs.Prelude.{Option, Some, None, unwrap_or, if◌then◌else◌}
 use Rattle.gang_model.specs.Debugger.Debugger.{Debugger, Setting}
 use Rattle.debug_session.specs.Sessions.{bare}
 use Rattle.adapter_requests.specs.declared.reply.Reply.{Reply}

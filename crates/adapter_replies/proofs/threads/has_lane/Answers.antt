@@ -1,4 +1,4 @@
-use Rattle.std.proofs.Common.{◌≡◌, ◌∙◌, sym, subst, ap, IfSome}
+use Rattle.std.proofs.Common.{◌∙◌, sym, subst, ap, IfSome}
 use Rattle.gang_types.specs.Lanes.{has}
 use Rattle.gang_types.specs.Masks.{IsGangWidth}
 use Rattle.gang_types.specs.MaskLaws.{has-lanes_of_word_past}
