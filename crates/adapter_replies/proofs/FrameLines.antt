@@ -1,19 +1,15 @@
 -- The lines of the local variables of a frame, one after another.
-use Rattle.std.proofs.Common.{◌≡◌, sym, ap, ap₂, ◌∙◌, List, [], ◌∷◌, ◌++◌, append_assoc, append-nil}
+use Rattle.std.proofs.Common.{◌≡◌, sym, ap, ◌∙◌, List, [], ◌∷◌, ◌++◌, append_assoc, append-nil}
 use Rattle.std.specs.Prelude.{flat_map}
 use Rattle.gang_model.specs.Texts.Text.{Bytes}
 
--- a line behind bytes: a name, what stands between, values, and its end, one put behind the other
-pub line_behind : (before first second third last given name between written values : Bytes) → first ≡ before ++ given → given ≡ name → second ≡ first ++ between
-    → third ≡ second ++ written → written ≡ values → last ≡ third ++ 10 ∷ []
-    → last ≡ before ++ (((name ++ []) ++ (between ++ values)) ++ 10 ∷ [])
-line_behind before first second third last given name between written values begins is_name goes_on puts is_written ends =
-    ends
-    ∙ ap (λ l. l ++ 10 ∷ [])
-    (puts ∙ ap₂ (λ l w. l ++ w) (goes_on ∙ ap (λ l. l ++ between) (begins ∙ ap (λ n. before ++ n) is_name)) is_written
-    ∙ append_assoc (before ++ name) between values ∙ append_assoc before name (between ++ values))
-    ∙ append_assoc before (name ++ (between ++ values)) (10 ∷ [])
-    ∙ ap (λ n. before ++ ((n ++ (between ++ values)) ++ 10 ∷ [])) (sym (append-nil name))
+-- the parts of a line behind what was there
+pub line_behind : (old name equals values end : Bytes) → (((old ++ name) ++ equals) ++ values) ++ end ≡ old ++ ((((name ++ []) ++ equals) ++ values) ++ end)
+line_behind old name equals values end =
+    ap (λ front. (front ++ values) ++ end) (append_assoc old name equals)
+    ∙ ap (λ front. front ++ end) (append_assoc old (name ++ equals) values)
+    ∙ append_assoc old ((name ++ equals) ++ values) end
+    ∙ ap (λ n. old ++ (((n ++ equals) ++ values) ++ end)) (sym (append-nil name))
 
 module _ {A : Type 0} (line : A → Bytes) where
   -- one line more, of those that are left
