@@ -1,0 +1,3 @@
+mod FewerLanes
+mod LaneLists
+mod Texts

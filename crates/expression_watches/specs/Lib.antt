@@ -1,0 +1,4 @@
+pub mod LaneSights
+pub mod Meanings
+pub mod Names
+pub mod Sights

@@ -1,0 +1,10 @@
+//! Expressions that are watched in a frame: what they show in each lane, and whether it changed.
+#![tactic(auto)]
+
+mod lanes;
+mod names;
+mod placing;
+mod sights;
+
+pub use lanes::{LaneSight, lanes_differ};
+pub use sights::{ExpressionWatch, LONGEST_TEXT, expression_sight};
