@@ -1,3 +1,4 @@
 mod FewerLanes
 mod LaneLists
+mod Rows
 mod Texts

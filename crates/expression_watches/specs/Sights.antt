@@ -1,5 +1,5 @@
 -- What a watched expression shows where its frame stands.
-use Rattle.std.specs.Prelude.{ℕ, nat_lt, List, [], length, Option, Some, None, if◌then◌else◌}
+use Rattle.std.specs.Prelude.{ℕ, nat_le, nat_lt, List, [], length, Option, Some, None, if◌then◌else◌}
 use Rattle.gang_types.specs.declared.places.Spot.{Spot}
 use Rattle.gang_types.specs.Lanes.{Lanes}
 use Rattle.gang_model.specs.Running.State.{State}
@@ -10,6 +10,11 @@ use Rattle.frame_expressions.specs.Lanes.{made_lanes}
 use Rattle.expression_watches.specs.declared.sights.ExpressionWatch.{ExpressionWatch}
 use Rattle.expression_watches.specs.LaneSights.{shown_in}
 use Rattle.expression_watches.specs.Meanings.{meaning_at}
+
+-- a watch of a text in the frame at a depth, which stands at a step; none of a text of more than 256 bytes
+abbrev pub watch_of : (number depth : ℕ) → (set_at : Spot) → (text : List ℕ) → Option ExpressionWatch
+watch_of number deep set_at text =
+    if nat_le (length text) 256 then Some (record { number = number; depth = deep; set_at = set_at; text = record { items = text } }) else None
 
 -- what an expression shows in the lanes of a gang, which are at most 16
 abbrev pub in_gang : Expr → Lanes → State → List (Option ℕ)

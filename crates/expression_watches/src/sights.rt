@@ -38,6 +38,23 @@ pub struct ExpressionWatch {
     pub text: ArrayVec<u8, LONGEST_TEXT>,
 }
 
+impl ExpressionWatch {
+    /// A watch of a text in the frame at a depth, which stands at a step; none of a text that is too long.
+    pub fn new(number: u32, depth: usize, set_at: Spot, text: &[u8]) -> Option<Self>
+        ensures { result ≡ spec.watch_of number depth set_at text.now }
+    {
+        match ArrayVec::try_from(text) {
+            Ok(text) => Some(ExpressionWatch {
+                number,
+                depth,
+                set_at,
+                text,
+            }),
+            Err(_) => None,
+        }
+    }
+}
+
 /// The blank in an unused place.
 impl Default for ExpressionWatch {
     ghost is_default = { λ watch. watch.number ≡ 0 };
