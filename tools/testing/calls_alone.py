@@ -58,6 +58,7 @@ CALLS = {
     "lane_picture::draw": 3,
     "run_page::write_page": 0,
     "frame_values::value_of_expression": 0,
+    "expression_watches::expression_sight": 0,
     "prompt_texts::told_variable": 0,
     "foreach_forms::forms_of": 0,
     "element_accesses::Accesses::of": 0,

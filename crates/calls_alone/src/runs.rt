@@ -4,6 +4,8 @@ use crate::samples::{INPUT, OPTIONS, SOURCE};
 use debug_commands::Command;
 use debug_traits::FramedMachine;
 use desk_options::read_verb;
+use expression_watches::{ExpressionWatch, expression_sight};
+use frame_expressions::ExpressionMachine;
 use frame_values::value_of_expression;
 use gang_machine::Machine;
 use ispc_debugger::{ProgramSession, open_machine, open_session, open_whole_session, run};
@@ -42,6 +44,7 @@ pub(crate) fn call(alloc: Global, name: &str) -> Option<Ended> {
         "lane_picture::draw" => Some(draw_picture(alloc, &mut session(alloc)?)),
         "run_page::write_page" => Some(write_run(alloc, &mut session(alloc)?)),
         "frame_values::value_of_expression" => Some(evaluate(alloc, &session(alloc)?)),
+        "expression_watches::expression_sight" => see(alloc, &session(alloc)?),
         "prompt_texts::told_variable" => tell_variable(alloc, &session(alloc)?),
         "source_port::port" => Some(end_of(&port(alloc, SOURCE))),
         _ => None,
@@ -113,6 +116,13 @@ fn write_run(alloc: Global, session: &mut ProgramSession<4>) -> Ended {
 /// The value of an expression where the program stands.
 fn evaluate(alloc: Global, session: &ProgramSession<4>) -> Ended {
     end_of(&value_of_expression(alloc, b"n + t[1]", 1, session.machine()))
+}
+
+/// What a watched expression shows where the program stands.
+fn see(alloc: Global, session: &ProgramSession<4>) -> Option<Ended> {
+    let machine = session.machine();
+    let watch = ExpressionWatch::new(1, 1, machine.spot(1)?, b"n + t[1]")?;
+    Some(end_of(&expression_sight(alloc, &watch, machine)))
 }
 
 /// What is told of an array where the program stands.
