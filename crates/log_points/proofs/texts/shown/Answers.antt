@@ -1,4 +1,4 @@
-use Rattle.std.proofs.Common.{subst}
+use Rattle.std.proofs.Common.{subst, false}
 use Rattle.gang_model.specs.Debugger.Debugger.{depth, now}
 use Rattle.debug_session.specs.Sessions.{bare}
 use Rattle.adapter_requests.specs.declared.request.Context.TheVariants.{Watch}
