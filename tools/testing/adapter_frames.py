@@ -93,7 +93,7 @@ def outer_frames(client, examples):
         same(client.refused("evaluate", expression="k", frameId=1), NO_NAME)
         same(client.value("k + 1", 2), "1 2 1 2")
         same(client.value("total", 2), "7")
-        same(client.ask("evaluate", expression="print k", context="repl", frameId=2)["result"], "k = 1 2 1 2")
+        same(client.ask("evaluate", expression="print k", context="repl", frameId=2)["result"], "0 1 0 1")
         same(client.ask("evaluate", expression="k", context="repl", frameId=2)["result"], "0 1 0 1")
         for number in (0, 4, 2**31):
             same(client.refused("scopes", frameId=number), NO_FRAME)
