@@ -51,6 +51,9 @@ list_row = refl
 look_row : line_of (codes "up 2") ≡ record { kind = kind.Look look.Up; text = codes "step  2" }
 look_row = refl
 
+short_row : line_of (codes "i line 9") ≡ record { kind = kind.Look look.Line; text = codes "break  9" }
+short_row = refl
+
 goto_row : line_of (codes "goto 4711") ≡ record { kind = kind.Goto; text = codes "goto  4711" }
 goto_row = refl
 

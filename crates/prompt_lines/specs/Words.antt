@@ -128,11 +128,15 @@ looks =
     ∷ row (codes "bt" ∷ []) (kind.Look look.Frames) (codes "delete")
     ∷ row (codes "where" ∷ []) (kind.Look look.Frames) (codes "delete")
     ∷ row (codes "info" ∷ codes "stack" ∷ []) (kind.Look look.Frames) (codes "delete")
+    ∷ row (codes "info" ∷ codes "s" ∷ []) (kind.Look look.Frames) (codes "delete")
+    ∷ row (codes "i" ∷ codes "stack" ∷ []) (kind.Look look.Frames) (codes "delete")
+    ∷ row (codes "i" ∷ codes "s" ∷ []) (kind.Look look.Frames) (codes "delete")
     ∷ row (codes "list" ∷ []) (kind.Look look.List) (codes "break")
     ∷ row (codes "l" ∷ []) (kind.Look look.List) (codes "break")
     ∷ row (codes "frame" ∷ []) (kind.Look look.Frame) (codes "frame")
     ∷ row (codes "f" ∷ []) (kind.Look look.Frame) (codes "frame")
     ∷ row (codes "info" ∷ codes "frame" ∷ []) (kind.Look look.Frame) (codes "frame")
+    ∷ row (codes "i" ∷ codes "frame" ∷ []) (kind.Look look.Frame) (codes "frame")
     ∷ row (codes "i" ∷ codes "f" ∷ []) (kind.Look look.Frame) (codes "frame")
     ∷ row (codes "up" ∷ []) (kind.Look look.Up) (codes "step")
     ∷ row (codes "down" ∷ []) (kind.Look look.Down) (codes "step")
@@ -143,16 +147,22 @@ looks =
     ∷ row (codes "info" ∷ codes "args" ∷ []) (kind.Look look.Arguments) []
     ∷ row (codes "i" ∷ codes "args" ∷ []) (kind.Look look.Arguments) []
     ∷ row (codes "info" ∷ codes "variables" ∷ []) (kind.Look look.Variables) []
+    ∷ row (codes "i" ∷ codes "variables" ∷ []) (kind.Look look.Variables) []
     ∷ row (codes "info" ∷ codes "display" ∷ []) (kind.Look look.Displays) []
+    ∷ row (codes "i" ∷ codes "display" ∷ []) (kind.Look look.Displays) []
     ∷ row (codes "info" ∷ codes "checkpoints" ∷ []) (kind.Look look.Checkpoints) []
     ∷ row (codes "i" ∷ codes "checkpoints" ∷ []) (kind.Look look.Checkpoints) []
     ∷ row (codes "info" ∷ codes "record" ∷ []) (kind.Look look.Recording) []
+    ∷ row (codes "i" ∷ codes "record" ∷ []) (kind.Look look.Recording) []
     ∷ row (codes "record" ∷ []) (kind.Look look.Recording) []
     ∷ row (codes "info" ∷ codes "watchpoints" ∷ []) (kind.Look look.Watches) []
     ∷ row (codes "i" ∷ codes "watchpoints" ∷ []) (kind.Look look.Watches) []
     ∷ row (codes "info" ∷ codes "source" ∷ []) (kind.Look look.Source) []
+    ∷ row (codes "i" ∷ codes "source" ∷ []) (kind.Look look.Source) []
     ∷ row (codes "info" ∷ codes "line" ∷ []) (kind.Look look.Line) (codes "break")
+    ∷ row (codes "i" ∷ codes "line" ∷ []) (kind.Look look.Line) (codes "break")
     ∷ row (codes "info" ∷ codes "program" ∷ []) (kind.Look look.Here) []
+    ∷ row (codes "i" ∷ codes "program" ∷ []) (kind.Look look.Here) []
     ∷ row (codes "info" ∷ codes "lanes" ∷ []) kind.Lanes (codes "lanes")
     ∷ row (codes "i" ∷ codes "lanes" ∷ []) kind.Lanes (codes "lanes")
     ∷ row (codes "info" ∷ []) (kind.Look look.Lists) []

@@ -107,7 +107,7 @@ pub(crate) const ROWS: [Row; 66] = [
 ];
 
 /// The words of what is looked at, and of values in other digits, for a line that begins with none of the others.
-pub(crate) const LOOKS: [Row; 56] = [
+pub(crate) const LOOKS: [Row; 66] = [
     Row(&[b"backtrace", b"full"], Kind::Look(Look::Full), b""),
     Row(&[b"bt", b"full"], Kind::Look(Look::Full), b""),
     Row(&[b"where", b"full"], Kind::Look(Look::Full), b""),
@@ -115,11 +115,15 @@ pub(crate) const LOOKS: [Row; 56] = [
     Row(&[b"bt"], Kind::Look(Look::Frames), b"delete"),
     Row(&[b"where"], Kind::Look(Look::Frames), b"delete"),
     Row(&[b"info", b"stack"], Kind::Look(Look::Frames), b"delete"),
+    Row(&[b"info", b"s"], Kind::Look(Look::Frames), b"delete"),
+    Row(&[b"i", b"stack"], Kind::Look(Look::Frames), b"delete"),
+    Row(&[b"i", b"s"], Kind::Look(Look::Frames), b"delete"),
     Row(&[b"list"], Kind::Look(Look::List), b"break"),
     Row(&[b"l"], Kind::Look(Look::List), b"break"),
     Row(&[b"frame"], Kind::Look(Look::Frame), b"frame"),
     Row(&[b"f"], Kind::Look(Look::Frame), b"frame"),
     Row(&[b"info", b"frame"], Kind::Look(Look::Frame), b"frame"),
+    Row(&[b"i", b"frame"], Kind::Look(Look::Frame), b"frame"),
     Row(&[b"i", b"f"], Kind::Look(Look::Frame), b"frame"),
     Row(&[b"up"], Kind::Look(Look::Up), b"step"),
     Row(&[b"down"], Kind::Look(Look::Down), b"step"),
@@ -130,7 +134,9 @@ pub(crate) const LOOKS: [Row; 56] = [
     Row(&[b"info", b"args"], Kind::Look(Look::Arguments), b""),
     Row(&[b"i", b"args"], Kind::Look(Look::Arguments), b""),
     Row(&[b"info", b"variables"], Kind::Look(Look::Variables), b""),
+    Row(&[b"i", b"variables"], Kind::Look(Look::Variables), b""),
     Row(&[b"info", b"display"], Kind::Look(Look::Displays), b""),
+    Row(&[b"i", b"display"], Kind::Look(Look::Displays), b""),
     Row(
         &[b"info", b"checkpoints"],
         Kind::Look(Look::Checkpoints),
@@ -138,12 +144,16 @@ pub(crate) const LOOKS: [Row; 56] = [
     ),
     Row(&[b"i", b"checkpoints"], Kind::Look(Look::Checkpoints), b""),
     Row(&[b"info", b"record"], Kind::Look(Look::Recording), b""),
+    Row(&[b"i", b"record"], Kind::Look(Look::Recording), b""),
     Row(&[b"record"], Kind::Look(Look::Recording), b""),
     Row(&[b"info", b"watchpoints"], Kind::Look(Look::Watches), b""),
     Row(&[b"i", b"watchpoints"], Kind::Look(Look::Watches), b""),
     Row(&[b"info", b"source"], Kind::Look(Look::Source), b""),
+    Row(&[b"i", b"source"], Kind::Look(Look::Source), b""),
     Row(&[b"info", b"line"], Kind::Look(Look::Line), b"break"),
+    Row(&[b"i", b"line"], Kind::Look(Look::Line), b"break"),
     Row(&[b"info", b"program"], Kind::Look(Look::Here), b""),
+    Row(&[b"i", b"program"], Kind::Look(Look::Here), b""),
     Row(&[b"info", b"lanes"], Kind::Lanes, b"lanes"),
     Row(&[b"i", b"lanes"], Kind::Lanes, b"lanes"),
     Row(&[b"info"], Kind::Look(Look::Lists), b""),
