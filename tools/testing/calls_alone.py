@@ -88,6 +88,8 @@ CALLS = {
     "adapter_replies::exception_reply": 0,
     "adapter_replies::answer_text": 0,
     "adapter_replies::no_value_text": 0,
+    "adapter_replies::thread_reply": 0,
+    "value_digits::digits_text": 0,
     "adapter_session::command_lines": 0,
     "adapter_session::answer_request": 0,
     "adapter_session::stop_at_beginning": 1,

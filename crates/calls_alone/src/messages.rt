@@ -32,7 +32,7 @@ pub(crate) fn call(alloc: Global, name: &str) -> Option<Ended> {
             Some(end_of(&event_message(alloc, 1, "initialized", Value::Null)))
         }
         "adapter_messages::stop_body" => {
-            Some(end_of(&stop_body(alloc, StopReason::Breakpoint(1), "here")))
+            Some(end_of(&stop_body(alloc, StopReason::Breakpoint(1), 2, "here")))
         }
         "adapter_messages::output_body" => Some(end_of(&output_body(alloc, "a text"))),
         _ => None,

@@ -2,16 +2,19 @@
 use crate::ends::{Ended, end_of};
 use crate::runs::session;
 use crate::stops::end_of_verdict;
-use adapter_replies::{answer_text, exception_reply, no_value_text, reply_to};
+use adapter_replies::{
+    Threads, answer_text, exception_reply, no_value_text, reply_to, thread_reply,
+};
 use adapter_requests::{LineBreakpoint, Reply, Request, StopReason};
 use adapter_session::{Answered, Terms, answer_request, command_lines, stop_at_beginning};
 use conditional_stops::CountedStop;
 use debug_answers::Answer;
 use debug_traits::RecordedMachine;
 use frame_values::NoValue;
-use gang_types::FaultName;
+use gang_types::{FaultName, IntType};
 use ispc_debugger::ProgramSession;
 use std::alloc::Global;
+use value_digits::{Digits, digits_text};
 
 /// The name of the source.
 const PROGRAM: &str = "it.ispc";
@@ -29,6 +32,11 @@ pub(crate) fn call(alloc: Global, name: &str) -> Option<Ended> {
         "adapter_replies::reply_to" => Some(list_frames(alloc, &session(alloc)?)),
         "adapter_replies::exception_reply" => Some(tell_fault(alloc)),
         "adapter_replies::answer_text" => Some(write_frames(alloc, &session(alloc)?)),
+        "adapter_replies::thread_reply" => Some(list_threads(alloc, &session(alloc)?)),
+        "value_digits::digits_text" => {
+            let text = digits_text(alloc, Digits::Hexadecimal, IntType::Int32, 255);
+            Some(end_of(&text))
+        }
         _ => None,
     }
 }
@@ -106,6 +114,12 @@ fn tell_fault(alloc: Global) -> Ended {
         lane: 3,
     };
     end_of(&exception_reply(alloc, stopped))
+}
+
+/// Lists the lanes as threads.
+fn list_threads(alloc: Global, session: &ProgramSession<4>) -> Ended {
+    let threads = Threads::Lanes(4);
+    end_of(&thread_reply(alloc, session.machine(), threads, &Request::Threads))
 }
 
 /// Writes the answer that lists the frames.
