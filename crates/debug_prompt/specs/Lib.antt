@@ -2,3 +2,4 @@ pub mod Printing
 pub mod Doing
 pub mod Lines
 pub mod Taking
+pub mod Listing
