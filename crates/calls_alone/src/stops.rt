@@ -2,7 +2,7 @@
 use crate::ends::{CallFault, Ended};
 use crate::runs::session;
 use conditional_stops::{
-    Conditions, CountedStop, Direction, MoveEnd, Verdict, Watch, ask_breakpoints, continue_on,
+    Conditions, CountedStop, Direction, FrameWatch, MoveEnd, Verdict, ask_breakpoints, continue_on,
     judge_condition, walk_on,
 };
 use debug_commands::{Command, read_command};
@@ -65,7 +65,7 @@ fn walk(alloc: Global, session: &mut ProgramSession<4>) -> Ended {
     let Some(mut conditions) = conditions(session) else {
         return Ended::Otherwise;
     };
-    let watches = [Watch::default()];
+    let watches = [FrameWatch::default()];
     end_of_move(
         walk_on(
             alloc,

@@ -6,5 +6,4 @@ pub mod Tables
 pub mod Verdicts
 pub mod Views
 pub mod Walking
-pub mod Watches
 pub mod Watching

@@ -2,4 +2,3 @@ pub mod Printing
 pub mod Doing
 pub mod Lines
 pub mod Taking
-pub mod Listing

@@ -1,13 +1,13 @@
 //! Which lines of the source are listed.
-ghost use Rattle.std.specs.Prelude.{◌≡◌};
-ghost use Rattle.debug_prompt.specs.Listing as spec;
-
 use debug_session::Session;
 use debug_traits::RecordedMachine;
 use debug_words::is_blank_line;
 use prompt_lines::{argument, breaking_line, is_alone};
 use prompt_scenes::line_of;
 use prompt_texts::Source;
+
+/// How many lines are listed at once.
+const LISTED: u32 = 10;
 
 /// The word that a command line of lines begins with.
 const WORD: &[u8] = b"break";
@@ -31,23 +31,26 @@ pub(crate) enum Lines {
 }
 
 impl Lines {
-    /// The lines that are listed now, so many at once, where a frame stands on a line.
-    pub(crate) fn after(self, last: Option<Listed>, size: u32, place: u32) -> Listed
-        ensures { result ≡ spec.listed size self last place }
-    {
+    /// The lines that are listed now.
+    pub(crate) fn after<M: RecordedMachine>(
+        self,
+        last: Option<Listed>,
+        frame: usize,
+        session: &Session<M>,
+    ) -> Listed {
         match (self, last) {
-            (Lines::Next, Some(last)) => lines_from(size, last.next),
-            (Lines::Next, None) => lines_from(size, around(size, place)),
-            (Lines::Before, Some(last)) => lines_before(size, last.first),
-            (Lines::Before, None) => lines_before(size, around(size, place)),
-            (Lines::Around(line), _) => lines_from(size, around(size, line)),
+            (Lines::Next, Some(last)) => ten_from(last.next),
+            (Lines::Next, None) => ten_from(around(place(frame, session))),
+            (Lines::Before, Some(last)) => ten_before(last.first),
+            (Lines::Before, None) => ten_before(around(place(frame, session))),
+            (Lines::Around(line), _) => ten_from(around(line)),
             (Lines::From(listed), _) => listed,
         }
     }
 }
 
-/// The lines that a command line which begins with `break` names, so many at once.
-pub(crate) fn lines_of(text: &[u8], size: u32, source: Source<'_>) -> Option<Lines> {
+/// The lines that a command line which begins with `break` names.
+pub(crate) fn lines_of(text: &[u8], source: Source<'_>) -> Option<Lines> {
     if is_alone(text) {
         return Some(Lines::Next);
     }
@@ -57,20 +60,20 @@ pub(crate) fn lines_of(text: &[u8], size: u32, source: Source<'_>) -> Option<Lin
     match argument(text) {
         Some(b"-") => Some(Lines::Before),
         Some(b"+") => Some(Lines::Next),
-        _ => between(text.get(WORD.len()..)?, size, source).map(Lines::From),
+        _ => between(text.get(WORD.len()..)?, source).map(Lines::From),
     }
 }
 
 /// The lines from one to another, which stand before and behind a comma. One of them may be missing.
-fn between(text: &[u8], size: u32, source: Source<'_>) -> Option<Listed> {
+fn between(text: &[u8], source: Source<'_>) -> Option<Listed> {
     let comma = text.iter().position(|byte| *byte == b',')?;
     let (front, back) = (text.get(..comma)?, text.get(comma.saturating_add(1)..)?);
     if is_blank_line(front) {
-        return Some(lines_before(size, end_of(back, source)?.saturating_add(1)));
+        return Some(ten_before(end_of(back, source)?.saturating_add(1)));
     }
     let first = end_of(front, source)?;
     if is_blank_line(back) {
-        return Some(lines_from(size, first));
+        return Some(ten_from(first));
     }
     let next = end_of(back, source)?.saturating_add(1);
     if next > first {
@@ -86,7 +89,7 @@ fn end_of(part: &[u8], source: Source<'_>) -> Option<u32> {
 }
 
 /// The line where a frame stands, the first one where the program has ended.
-pub(crate) fn place<M: RecordedMachine>(frame: usize, session: &Session<M>) -> u32 {
+fn place<M: RecordedMachine>(frame: usize, session: &Session<M>) -> u32 {
     let machine = session.machine();
     let Some(top) = machine.position() else {
         return 1;
@@ -101,28 +104,22 @@ pub(crate) fn place<M: RecordedMachine>(frame: usize, session: &Session<M>) -> u
 }
 
 /// The first line of those that are listed around one.
-fn around(size: u32, line: u32) -> u32
-    ensures { result ≡ spec.around size line }
-{
-    line.saturating_sub(size / 2).max(1)
+fn around(line: u32) -> u32 {
+    line.saturating_sub(LISTED / 2).max(1)
 }
 
 /// As many lines as are listed at once, from one on.
-fn lines_from(size: u32, first: u32) -> Listed
-    ensures { result ≡ spec.lines_from size first }
-{
+fn ten_from(first: u32) -> Listed {
     Listed {
         first,
-        next: first.saturating_add(size),
+        next: first.saturating_add(LISTED),
     }
 }
 
 /// As many lines as are listed at once, before one.
-fn lines_before(size: u32, next: u32) -> Listed
-    ensures { result ≡ spec.lines_before size next }
-{
+fn ten_before(next: u32) -> Listed {
     Listed {
-        first: next.saturating_sub(size).max(1),
+        first: next.saturating_sub(LISTED).max(1),
         next,
     }
 }

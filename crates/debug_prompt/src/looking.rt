@@ -7,21 +7,17 @@ ghost use Rattle.prompt_lines.specs.declared.line.Kind.TheVariants as kind;
 ghost use Rattle.prompt_scenes.specs.Holding.{held, sheet};
 ghost use Rattle.prompt_scenes.specs.Readings as readings;
 ghost use Rattle.prompt_scenes.specs.SelectedFrame as selection;
-ghost use Rattle.prompt_lines.specs.Readings.{bytes_option};
-ghost use Rattle.prompt_texts.specs.Shown.{Puts};
 ghost use Rattle.debug_prompt.specs.Doing as spec;
-ghost use Rattle.debug_prompt.specs.Listing as listing;
 
 use crate::copies_told::tell_copies;
-use crate::listing::{Lines, Listed, lines_of, place};
-use crate::settings::{USUAL_LINES, lines_named, show_layout};
+use crate::listing::{Lines, Listed, lines_of};
+use crate::settings::show_layout;
 use debug_answers::{NumberedStop, Stop};
 use debug_commands::read_command;
 use debug_session::Session;
 use debug_traits::{AnswerWriter, FramedMachine, RecordedMachine};
 use debug_words::is_blank_line;
-use frame_expressions::ExpressionMachine;
-use prompt_lines::{Kind, Look, PromptLine, argument, is_alone};
+use prompt_lines::{Kind, Look, PromptLine, is_alone};
 use prompt_moves::show_checkpoints;
 use prompt_scenes::{
     Holding, ListedLine, Scene, delete_of, frame_above, frame_below, frame_named, is_move, line_of,
@@ -33,7 +29,7 @@ use prompt_texts::{
     show_help, show_here, show_line, show_lists, show_locals, show_recording, show_source,
     show_text, show_type, show_variables, show_watches, tell_unknown,
 };
-use prompt_values::{form_of, show_functions, tell_watch_conditions};
+use prompt_values::{form_of, tell_watch_conditions};
 use whole_runs::TellsCopies;
 
 /// Why there is no frame below.
@@ -45,21 +41,18 @@ const TOP: &[u8] = b"Initial frame selected; you can't go up.\n";
 /// The word before a text that is written.
 const ECHO: &[u8] = b"echo";
 
-/// From which line on and up to which one the source was listed last, how many lines are listed at once, and whether the history was ever
-/// full.
+/// From which line on and up to which one the source was listed last, and whether the history was ever full.
 #[derive(Drop)]
 pub(crate) struct Looking {
     listed: Option<Listed>,
-    lines: u32,
     was_full: bool,
 }
 
 impl Looking {
-    /// Nothing was listed, ten lines are listed at once, and the history is not full.
+    /// Nothing was listed, and the history is not full.
     pub(crate) fn new() -> Self {
         Looking {
             listed: None,
-            lines: USUAL_LINES,
             was_full: false,
         }
     }
@@ -75,7 +68,7 @@ impl Looking {
     }
 
     /// Shows what is looked at, and selects a frame. A look that repeats by an empty line names no line.
-    pub(crate) fn look<M: ExpressionMachine + TellsCopies, O: AnswerWriter + Drop>(
+    pub(crate) fn look<M: FramedMachine + TellsCopies, O: AnswerWriter + Drop>(
         &mut self,
         look: Look,
         text: &[u8],
@@ -93,14 +86,12 @@ impl Looking {
             Look::Up => go_up(text, holding, scene, session, page),
             Look::Down => go_down(text, holding, scene, session, page),
             Look::List => self.list(text, is_again, holding, scene, session, page),
-            Look::ListSize => self.set_lines(text, scene, page),
             Look::Recording => self.show_recording(text, scene, session, page),
             Look::Frames | Look::Full | Look::Here | Look::Line | Look::Source => look_at_program(
                 look, text, scene, session, page,
             ),
             Look::Watches => look_at_watches(scene.listed, holding, session, page),
-            Look::Layout => show_layout(text, self.lines, scene, page),
-            Look::Functions => list_functions(text, scene, session, page),
+            Look::Layout => show_layout(text, scene, page),
             Look::Checkpoints => show_checkpoints(holding, page),
             Look::Type | Look::Locals | Look::Arguments | Look::Variables | Look::Displays => {
                 look_at_values(look, text, holding, scene, session, page);
@@ -122,31 +113,15 @@ impl Looking {
         let named = if is_again {
             Some(Lines::Next)
         } else {
-            lines_of(text, self.lines, scene.source)
+            lines_of(text, scene.source)
         };
         let Some(lines) = named else {
             tell_unknown(scene.line, page);
             return;
         };
-        let here = place(holding.frame(), session);
-        let listed = lines.after(self.listed, self.lines, here);
+        let listed = lines.after(self.listed, holding.frame(), session);
         list_lines(listed.first, listed.next, scene.source, session, page);
         self.listed = Some(listed);
-    }
-
-    /// Lists so many lines at once from now on, as a command line names.
-    fn set_lines<O: AnswerWriter + Drop>(
-        &mut self,
-        text: &[u8],
-        scene: Scene<'_>,
-        page: &mut Page<O>,
-    )
-        ensures { self.new.lines ≡ listing.size_after self.old.lines text.now }
-    {
-        match lines_named(text) {
-            Some(lines) => self.lines = lines,
-            None => tell_unknown(scene.line, page),
-        }
     }
 
     /// Shows how much can be taken back, and what copies are kept for it.
@@ -249,33 +224,6 @@ fn go_down<M: RecordedMachine, O: AnswerWriter + Drop>(
         page.put(BOTTOM);
     } else {
         go_to(number, holding, scene, session, page);
-    }
-}
-
-/// Lists the functions of the program whose names have a part, if one word alone follows.
-fn list_functions<M: ExpressionMachine, O: AnswerWriter + Drop>(
-    text: &[u8],
-    scene: Scene<'_>,
-    session: &Session<M>,
-    page: &mut Page<O>,
-)
-    ensures { (s : Setting) (d : Debugger) → StandsFor M.stands session.now s d
-        → listing.ListsFunctions (λ lines. Puts lines page.old.has_failed page.new.has_failed (O.written page.old.writer) (O.written page.new.writer)) text.now scene.entry.source.text.now s.program }
-{
-    match part_of(text) {
-        Some(part) => show_functions(part, scene.source, session.machine(), page),
-        None => tell_unknown(scene.line, page),
-    }
-}
-
-/// The part that names are to have: what stands behind the first word, nothing behind a word alone.
-fn part_of(text: &[u8]) -> Option<&[u8]>
-    ensures { bytes_option result ≡ listing.part_of text.now }
-{
-    if is_alone(text) {
-        Some(&[])
-    } else {
-        argument(text)
     }
 }
 

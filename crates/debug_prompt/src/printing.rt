@@ -67,7 +67,7 @@ fn print_named<M: ExpressionMachine, O: AnswerWriter + Drop>(
     if let Some(value) = value_instead(target.name, text, holding, scene, session) {
         print_silently(target, holding, session);
         show_instead(&value, text, page);
-        Printed::of_expression(value)
+        Some(Printed::Expression(value))
     } else {
         let (_, printed) = print_target(target, holding, scene, session, page);
         printed

@@ -102,7 +102,7 @@ const OTHERS: [Reason; 18] = [
     ),
     Reason(
         &[b"info", b"i"],
-        b"`info` lists: breakpoints, watchpoints, locals, args, variables, functions [TEXT], display, frame, stack, lanes, record, source, line [N], program.",
+        b"`info` lists: breakpoints, watchpoints, locals, args, variables, display, frame, stack, lanes, record, source, line [N], program.",
     ),
     Reason(
         &[b"backtrace", b"bt", b"where"],

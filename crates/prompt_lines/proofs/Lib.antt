@@ -2,5 +2,4 @@ mod HeldTexts
 pub mod Prefixes
 mod Rows
 mod WorkedLines
-mod WorkedHeads
 mod Places

@@ -165,17 +165,3 @@ are_not_row = refl
 
 too_long_row : are_numbers (codes "delete " ++ replicate 250 49) ≡ false
 too_long_row = refl
-
--- ---- functions
-
-functions_row : line_of (codes "info functions tw") ≡ record { kind = kind.Look look.Functions; text = codes "functions  tw" }
-functions_row = refl
-
-short_row : line_of (codes "i line 9") ≡ record { kind = kind.Look look.Line; text = codes "break  9" }
-short_row = refl
-
-list_size_row : line_of (codes "show listsize") ≡ record { kind = kind.Look look.Layout; text = codes "listsize " }
-list_size_row = refl
-
-set_list_size_row : line_of (codes "set listsize 20") ≡ record { kind = kind.Look look.ListSize; text = codes "listsize  20" }
-set_list_size_row = refl

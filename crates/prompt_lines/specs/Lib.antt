@@ -2,6 +2,5 @@ pub mod Words
 pub mod Parts
 pub mod Readings
 pub mod Sources
-pub mod Heads
 pub mod Conditions
 pub mod Numbers

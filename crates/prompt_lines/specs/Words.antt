@@ -54,7 +54,6 @@ rows =
     ∷ row (codes "set" ∷ codes "variable" ∷ []) kind.Set (codes "set var")
     ∷ row (codes "set" ∷ codes "record" ∷ codes "full" ∷ codes "insn-number-max" ∷ codes "unlimited" ∷ []) kind.Own (codes "set record full insn-number-max 65536")
     ∷ row (codes "set" ∷ codes "record" ∷ []) kind.Own (codes "set record")
-    ∷ row (codes "set" ∷ codes "listsize" ∷ []) (kind.Look look.ListSize) (codes "listsize")
     ∷ row (codes "set" ∷ []) kind.Set (codes "set var")
     ∷ row (codes "stepi" ∷ []) kind.Own (codes "step")
     ∷ row (codes "si" ∷ []) kind.Own (codes "step")
@@ -149,8 +148,6 @@ looks =
     ∷ row (codes "i" ∷ codes "args" ∷ []) (kind.Look look.Arguments) []
     ∷ row (codes "info" ∷ codes "variables" ∷ []) (kind.Look look.Variables) []
     ∷ row (codes "i" ∷ codes "variables" ∷ []) (kind.Look look.Variables) []
-    ∷ row (codes "info" ∷ codes "functions" ∷ []) (kind.Look look.Functions) (codes "functions")
-    ∷ row (codes "i" ∷ codes "functions" ∷ []) (kind.Look look.Functions) (codes "functions")
     ∷ row (codes "info" ∷ codes "display" ∷ []) (kind.Look look.Displays) []
     ∷ row (codes "i" ∷ codes "display" ∷ []) (kind.Look look.Displays) []
     ∷ row (codes "info" ∷ codes "checkpoints" ∷ []) (kind.Look look.Checkpoints) []
@@ -174,7 +171,6 @@ looks =
     ∷ row (codes "h" ∷ []) (kind.Look look.Help) []
     ∷ row (codes "echo" ∷ []) (kind.Look look.Text) []
     ∷ row (codes "show" ∷ codes "print" ∷ []) (kind.Look look.Layout) []
-    ∷ row (codes "show" ∷ codes "listsize" ∷ []) (kind.Look look.Layout) (codes "listsize")
     ∷ row (codes "p/x" ∷ []) kind.Formatted (codes "print/x")
     ∷ row (codes "print/x" ∷ []) kind.Formatted (codes "print/x")
     ∷ row (codes "p/t" ∷ []) kind.Formatted (codes "print/t")

@@ -2,7 +2,6 @@
 #![tactic(auto)]
 
 mod conditions;
-mod heads;
 mod line;
 mod numbers;
 mod parts;
@@ -11,7 +10,6 @@ mod sources;
 mod table;
 
 pub use conditions::{before_condition, condition_in, split_word};
-pub use heads::{Head, function_head, has_part, stripped};
 pub use line::{HELD, Kind, Look, PromptLine, Text};
 pub use numbers::{NumberRange, are_numbers, behind_first, names_number, range_of};
 pub use parts::count_place;

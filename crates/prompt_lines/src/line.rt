@@ -12,8 +12,6 @@ pub type Text = ArrayVec<u8, HELD>;
 pub enum Look {
     /// Lines of the source.
     List,
-    /// How many lines are listed at once, from now on.
-    ListSize,
     /// The frames.
     Frames,
     /// The frames with their variables.
@@ -32,8 +30,6 @@ pub enum Look {
     Arguments,
     /// The variables of the file.
     Variables,
-    /// The functions of the program.
-    Functions,
     /// What is displayed after each move.
     Displays,
     /// The moments that were noted.
@@ -54,7 +50,7 @@ pub enum Look {
     Help,
     /// A text.
     Text,
-    /// How much of an array is told, and how many lines are listed.
+    /// How much of an array is told.
     Layout,
 }
 

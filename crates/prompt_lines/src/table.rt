@@ -33,7 +33,7 @@ pub(crate) const LETTERS: [Row; 19] = [
 ];
 
 /// The words of what is done, mostly by their names in GDB. Of two that a line begins with the first one counts.
-pub(crate) const ROWS: [Row; 67] = [
+pub(crate) const ROWS: [Row; 66] = [
     Row(&[b"set", b"var"], Kind::Set, b"set var"),
     Row(&[b"set", b"variable"], Kind::Set, b"set var"),
     Row(
@@ -42,11 +42,6 @@ pub(crate) const ROWS: [Row; 67] = [
         b"set record full insn-number-max 65536",
     ),
     Row(&[b"set", b"record"], Kind::Own, b"set record"),
-    Row(
-        &[b"set", b"listsize"],
-        Kind::Look(Look::ListSize),
-        b"listsize",
-    ),
     Row(&[b"set"], Kind::Set, b"set var"),
     Row(&[b"stepi"], Kind::Own, b"step"),
     Row(&[b"si"], Kind::Own, b"step"),
@@ -112,7 +107,7 @@ pub(crate) const ROWS: [Row; 67] = [
 ];
 
 /// The words of what is looked at, and of values in other digits, for a line that begins with none of the others.
-pub(crate) const LOOKS: [Row; 69] = [
+pub(crate) const LOOKS: [Row; 66] = [
     Row(&[b"backtrace", b"full"], Kind::Look(Look::Full), b""),
     Row(&[b"bt", b"full"], Kind::Look(Look::Full), b""),
     Row(&[b"where", b"full"], Kind::Look(Look::Full), b""),
@@ -140,16 +135,6 @@ pub(crate) const LOOKS: [Row; 69] = [
     Row(&[b"i", b"args"], Kind::Look(Look::Arguments), b""),
     Row(&[b"info", b"variables"], Kind::Look(Look::Variables), b""),
     Row(&[b"i", b"variables"], Kind::Look(Look::Variables), b""),
-    Row(
-        &[b"info", b"functions"],
-        Kind::Look(Look::Functions),
-        b"functions",
-    ),
-    Row(
-        &[b"i", b"functions"],
-        Kind::Look(Look::Functions),
-        b"functions",
-    ),
     Row(&[b"info", b"display"], Kind::Look(Look::Displays), b""),
     Row(&[b"i", b"display"], Kind::Look(Look::Displays), b""),
     Row(
@@ -177,11 +162,6 @@ pub(crate) const LOOKS: [Row; 69] = [
     Row(&[b"h"], Kind::Look(Look::Help), b""),
     Row(&[b"echo"], Kind::Look(Look::Text), b""),
     Row(&[b"show", b"print"], Kind::Look(Look::Layout), b""),
-    Row(
-        &[b"show", b"listsize"],
-        Kind::Look(Look::Layout),
-        b"listsize",
-    ),
     Row(&[b"p/x"], Kind::Formatted, b"print/x"),
     Row(&[b"print/x"], Kind::Formatted, b"print/x"),
     Row(&[b"p/t"], Kind::Formatted, b"print/t"),

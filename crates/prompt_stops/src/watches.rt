@@ -1,5 +1,5 @@
 //! What is told of watches of variables of frames.
-use conditional_stops::{CountedStop, FrameWatch, MoveEnd, Moved, Reason, Watch};
+use conditional_stops::{CountedStop, FrameWatch, MoveEnd, Moved, Reason};
 use debug_commands::Target;
 use debug_session::Session;
 use debug_traits::{AnswerWriter, FramedMachine, RecordedMachine};
@@ -14,7 +14,7 @@ pub(crate) fn tell_made<O: AnswerWriter + Drop>(
     page: &mut Page<O>,
 ) {
     for watch in holding.frames.as_slice() {
-        if Some(watch.number()) == number {
+        if Some(watch.number) == number {
             page.put(b"watch ");
             put_watch(watch, b": ", page);
             page.put(b", while this frame is there\n");
@@ -36,9 +36,9 @@ pub fn list_frames<O: AnswerWriter + Drop>(holding: &Holding, page: &mut Page<O>
     for watch in holding.frames.as_slice() {
         put_watch(watch, b"  watch, ", page);
         page.put(b", of the frame at depth ");
-        page.put_number(watch.depth() as i128);
+        page.put_number(watch.depth as i128);
         page.put(b"\n");
-        tell_said(watch.number(), holding, page);
+        tell_said(watch.number, holding, page);
     }
 }
 
@@ -77,22 +77,7 @@ fn show_watched<M: FramedMachine, O: AnswerWriter + Drop>(
 ) {
     let top = depth(session);
     for watch in holding.frames.as_slice() {
-        if watch.number() == number {
-            show_seen(watch, top, scene, session, page);
-        }
-    }
-}
-
-/// Shows a lane or an element that is watched, or a variable of another frame than the top one.
-fn show_seen<M: FramedMachine, O: AnswerWriter + Drop>(
-    watch: &Watch,
-    top: usize,
-    scene: Scene<'_>,
-    session: &Session<M>,
-    page: &mut Page<O>,
-) {
-    if let Watch::Variable(watch) = watch {
-        if watch.at.is_some() || watch.depth != top {
+        if watch.number == number && (watch.at.is_some() || watch.depth != top) {
             show_watch(watch, scene, session.machine(), page);
         }
     }
@@ -132,10 +117,10 @@ pub fn tell_ended<M: RecordedMachine, O: AnswerWriter + Drop>(
     let top = depth(session);
     let is_back = session.machine().kept_steps() < steps;
     for watch in holding.frames.as_slice() {
-        if watch.depth() > known {
+        if watch.depth > known {
             page.put(b"watch ");
             put_watch(watch, b" of ", page);
-            page.put(if watch.depth() <= top {
+            page.put(if watch.depth <= top {
                 b" ends: this line may have left its frame\n"
             } else if is_back {
                 b" ends: its frame is not yet entered here\n"
@@ -147,17 +132,9 @@ pub fn tell_ended<M: RecordedMachine, O: AnswerWriter + Drop>(
 }
 
 /// Writes the number of a watch, and what it watches.
-fn put_watch<O: AnswerWriter + Drop>(watch: &Watch, between: &[u8], page: &mut Page<O>) {
-    page.put_number(i128::from(watch.number()));
+fn put_watch<O: AnswerWriter + Drop>(watch: &FrameWatch, between: &[u8], page: &mut Page<O>) {
+    page.put_number(i128::from(watch.number));
     page.put(between);
-    match watch {
-        Watch::Variable(watch) => put_part(watch, page),
-        Watch::Expression(watch) => page.put_masked(watch.text.as_slice()),
-    }
-}
-
-/// Writes a variable, or a lane or an element of it.
-fn put_part<O: AnswerWriter + Drop>(watch: &FrameWatch, page: &mut Page<O>) {
     page.put_masked(watch.name.as_slice());
     if let Some(index) = watch.at {
         page.put(b"[");

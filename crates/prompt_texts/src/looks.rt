@@ -16,7 +16,7 @@ use prompt_help::explanation;
 
 /// What `info` lists.
 const LISTS: &[u8] =
-    b"`info` lists: breakpoints, watchpoints, locals, args, variables, functions [TEXT], display, frame, stack, lanes, record, checkpoints, source, line [N], program.\n";
+    b"`info` lists: breakpoints, watchpoints, locals, args, variables, display, frame, stack, lanes, record, checkpoints, source, line [N], program.\n";
 
 /// The most variables of a file that are shown.
 const VARIABLES: usize = 256;

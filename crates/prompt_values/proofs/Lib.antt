@@ -1,5 +1,2 @@
-pub mod Bare
-pub mod GangWidths
-pub mod WrittenForms
 mod WorkedForms
 mod WorkedNumbered
