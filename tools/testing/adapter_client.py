@@ -14,6 +14,7 @@ import threading
 from .adapter_members import (
     EVENTS, MEMBERS, NUMBER, QUIET, TEXT, THREAD, TRUTH, VARIABLE, Wrong, need, need_body, need_capabilities, need_members, need_stop, same,
 )
+from .adapter_children import CHILD_CHECKS
 from .adapter_conditions import CONDITION_CHECKS
 from .adapter_formats import FORMAT_CHECKS
 from .adapter_frames import FRAME_CHECKS, written
@@ -443,7 +444,7 @@ def wrong_requests(client, examples):
     client.end()
 
 
-CHECKS = [steps_and_back, watches, breaks, locations, variables, frames, faults, filters, the_end, wrong_requests, *FRAME_CHECKS, *LANE_CHECKS, *LAUNCH_CHECKS, *LOG_CHECKS, *VALUE_CHECKS, *TARGET_CHECKS, *FORMAT_CHECKS, *MOVE_CHECKS, *CONDITION_CHECKS, *FUNCTION_CHECKS, *PROGRAM_CHECKS]
+CHECKS = [steps_and_back, watches, breaks, locations, variables, frames, faults, filters, the_end, wrong_requests, *FRAME_CHECKS, *LANE_CHECKS, *LAUNCH_CHECKS, *LOG_CHECKS, *VALUE_CHECKS, *TARGET_CHECKS, *CHILD_CHECKS, *FORMAT_CHECKS, *MOVE_CHECKS, *CONDITION_CHECKS, *FUNCTION_CHECKS, *PROGRAM_CHECKS]
 
 
 def check(root, command):

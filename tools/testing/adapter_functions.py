@@ -222,4 +222,40 @@ def restarts(client, examples):
         client.end()
 
 
-FUNCTION_CHECKS = [on_their_first_lines, refused_names, their_terms, beside_others, counts_go_on, of_watches, restarts]
+def move_with_their_functions(client, examples):
+    """A restart sets each where its function stands in the text of then, with its terms; where that is gone none is set, and the others keep theirs."""
+    with written(SOURCE) as path:
+        client.launch(path, stopOnEntry=False)
+        # The sum is 27 before that of the round 9, and 0 where the run begins, on this line of the second text.
+        [line] = [it["id"] for it in ask(client, (SUM, {"condition": "total == 27"}))]
+        # 10 = i * lane first in the round 5, of lane 2.
+        made = functions(client, {"name": "twice", "condition": "k == 3"}, {"name": "nothing", "hitCondition": "4"})
+        same((line, [it["id"] for it in made]), (1, [2, 3]))
+        hit(client, client.begin(), 3, NOTHING, 3)
+        # Three lines further down.
+        path.write_text("\n\n\n" + SOURCE)
+        client.ask("restart")
+        hit(client, client.event("stopped"), 3, NOTHING + 3, 3)
+        hit(client, client.move("continue"), 3, NOTHING + 3, 4)
+        hit(client, client.move("continue"), 2, TWICE + 3, 5)
+        same(listed(client), 3)
+        # Of another name: the other's number is 2, and its count its own.
+        path.write_text(SOURCE.replace("twice", "doubled"))
+        client.ask("restart")
+        hit(client, client.event("stopped"), 2, NOTHING, 3)
+        same(listed(client), 2)
+        # The breakpoint of the line has kept its line and its condition.
+        for i in range(4, 9):
+            hit(client, client.move("continue"), 2, NOTHING, i)
+        stop = client.move("continue")
+        same((stop["hitBreakpointIds"], client.place()[0][0], client.value("i")), ([1], SUM, "9"))
+        # One that has gone does not come back by itself.
+        path.write_text(SOURCE)
+        client.ask("restart")
+        hit(client, client.event("stopped"), 2, NOTHING, 3)
+        same([it["line"] for it in functions(client, "twice")], [TWICE])
+        same(listed(client), 2)
+        client.end()
+
+
+FUNCTION_CHECKS = [on_their_first_lines, refused_names, their_terms, beside_others, counts_go_on, of_watches, restarts, move_with_their_functions]

@@ -147,10 +147,12 @@ def need_variable(item):
     need(is_marked == item["value"].endswith(WAITS), f"the marks of the variable {item}")
     name = item["name"][: -len(WAITS)] if is_marked else item["name"]
     is_range = ".." in name
+    is_of_expression = name.startswith("[")
     need_members("the hint of a variable", item["presentationHint"], {"attributes": LIST, "kind": TEXT}, {})
     need(item["presentationHint"]["attributes"] in ATTRIBUTES, f"the hint of the variable {item}")
     need(item["presentationHint"]["kind"] == ("virtual" if is_range else "data"), f"the kind of the variable {item}")
-    need(("evaluateName" in item) != is_range and item.get("evaluateName", name) == name, f"the variable {item}")
+    need(("evaluateName" in item) != (is_range or is_of_expression) and item.get("evaluateName", name) == name, f"the variable {item}")
+    need(not is_of_expression or item["presentationHint"]["attributes"] == ["readOnly"], f"the lane {item} can be set")
     is_array = item["type"].endswith("]")
     need(("indexedVariables" in item) == is_array, f"the number of the elements of {item}")
     need(not is_array or item["value"] == f"{item['indexedVariables']} elements", f"the elements of {item}")

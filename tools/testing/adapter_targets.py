@@ -75,7 +75,7 @@ def of_waiting_lanes(client, width):
 
 
 def opens(client, width):
-    """A varying scalar or an array opens under the mouse, in the watch list and in the console as it does among the variables; nothing else opens."""
+    """A varying scalar or an array opens under the mouse, in the watch list and in the console as it does among the variables, and a value that varies into lanes of its own; nothing else opens."""
     lanes = range(width)
     with written(RECURSION) as source:
         at_depth_3(client, source, width)
@@ -89,8 +89,10 @@ def opens(client, width):
             for text, depth in [("x", 1), ("even", 1), ("k", 2), ("r", 2), ("k", 3), ("wide", 1), ("wide", 2), ("wide", 3), ("table", 1), ("table", 3)]:
                 same(told(text, depth), listed[depth][text]["variablesReference"])
                 need(told(text, depth) > 0, f"{text} does not open at depth {depth}")
-            for text, depth in [("y", 1), ("deep", 2), ("deep", 3), ("total", 3), ("x[2]", 1), ("k[1]", 3), ("table[2]", 2), ("x + 1", 1), ("k * 1", 3), ("7", 2)]:
+            for text, depth in [("y", 1), ("deep", 2), ("deep", 3), ("total", 3), ("x[2]", 1), ("k[1]", 3), ("table[2]", 2), ("deep + 1", 3), ("7", 2)]:
                 same(told(text, depth), 0)
+            for text, depth in [("x + 1", 1), ("k * 1", 3)]:
+                need(told(text, depth) not in (0, *(it["variablesReference"] for it in listed[depth].values())), f"{text} opens into a variable at depth {depth}")
         top = client.ask("evaluate", expression="k", context="watch")["variablesReference"]
         same(client.values(top), {f"k[{lane}]": str(lane % 2 + 1) for lane in lanes})
         outer = client.ask("evaluate", **asked("x", 1, "hover"))["variablesReference"]

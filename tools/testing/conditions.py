@@ -156,7 +156,7 @@ def of_refusals(width):
         ("C1 BadCommand", "ignore N COUNT"),
         ("C10 NoSuchNumber",),
         ("C1 BadCommand",),
-        ("C1 BadCommand",),
+        ("S3 Unexpected, column 13:",),
         ("C1 BadCommand",),
         ("no breakpoints or watches",),
     ]

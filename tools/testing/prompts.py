@@ -17,7 +17,7 @@ import subprocess
 import tempfile
 import tty
 
-from . import asking, digits, numbering, printing, returning
+from . import asking, digits, listing, numbering, printing, returning
 from .tried import Result, Run, differences, shown
 
 CRATE = "rinddecade"
@@ -158,7 +158,7 @@ def runs(root):
     """A run for each session, and one for each line that users of GDB type."""
     page = [Run(f"{PAGE}: {line}", as_bytes([line]), ["debug", "go.ispc"], is_known, b"", data={"go.ispc": SOURCE}) for line in typed(root)]
     habits = Habits(root)
-    return [it.run() for it in sessions(root)] + page + [habits.run(*row) for row in habits.rows] + [checkpoints()] + digits.runs() + printing.runs() + asking.runs() + returning.runs() + numbering.runs()
+    return [it.run() for it in sessions(root)] + page + [habits.run(*row) for row in habits.rows] + [checkpoints()] + digits.runs() + printing.runs() + asking.runs() + returning.runs() + numbering.runs() + listing.runs()
 
 
 def checkpoints():

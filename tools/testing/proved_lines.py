@@ -106,9 +106,9 @@ class Small:
         text = file.read_text(encoding="utf-8") if file.is_file() else ""
         return {it.split()[0]: it for it in text.splitlines() if not it.startswith("#")}
 
-    def lands(self, what, end, made, drawn=0, program=LANDS):
+    def lands(self, what, end, made, drawn=0, program=LANDS, words=()):
         """A landing ends with this line, and makes these steps alone."""
-        said, _ = self.called(program, str(drawn))
+        said, _ = self.called(program, str(drawn), *words)
         found = sorted(re.findall(r"^ *\d+ s  (\w+: \w+)(?: \S+\.edit)? (?:passed|FAILED),", said, re.M))
         if said.rstrip().rpartition("\n")[2] != end or found != sorted(made):
             self.why += [f"{what}: it makes {', '.join(found) or 'nothing'}, and says:", *said.splitlines()[-12:]]
@@ -120,6 +120,17 @@ class Small:
 def write(path, text):
     path.parent.mkdir(parents=True, exist_ok=True)
     path.write_text(text, encoding="utf-8")
+
+
+def crates_that_are_named(small):
+    """A crate that is named is judged alone, over the proofs of what lies below it; with `--proofs` it is proved alone."""
+    small.lands("the lower one is named", "2 passed, 0 failed", [f"{LOWER}: {it}" for it in ("proof", "edit")], words=[LOWER])
+    small.must("the other has no line", [*small.lines()] == [LOWER])
+    small.lands("the upper one is left out", "2 passed, 0 failed", [], words=["--but", "upp*"])
+    small.lands("proofs alone", "2 passed, 0 failed", [f"{UPPER}: proof"], words=["--proofs"])
+    small.must("it has no line still", [*small.lines()] == [LOWER])
+    small.forget()
+    os.remove(small.root / FILE)
 
 
 def lines_that_stand(small):
@@ -166,7 +177,7 @@ def check(root):
     found = []
     with tempfile.TemporaryDirectory(prefix="small-") as top:
         small = Small(root / "tools", pathlib.Path(os.path.realpath(top)))
-        for call in (lines_that_stand, a_short_disk, forged_lines):
+        for call in (crates_that_are_named, lines_that_stand, a_short_disk, forged_lines):
             small.why = []
             call(small)
             found.append(Result(call.__name__.replace("_", " "), not small.why, small.why))

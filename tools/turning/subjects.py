@@ -4,7 +4,7 @@ import functools
 import tempfile
 
 from testing import adapter_client, adapter_sessions, conditions, desk, disabling, explained, front_ends, hostile, lanes_so_far, local_past, orders
-from testing import pictures, ports, profiles, prompts, random_prompts, run_pages, stop_lines, terminals, watching, whole_runs
+from testing import pictures, ports, profiles, prompts, random_prompts, run_pages, stop_lines, terminals, watched_expressions, watching, whole_runs
 from testing.built import ended
 from testing.calls import side_by_side
 from testing.parts import done
@@ -27,7 +27,7 @@ def of_runs(*calls):
 
 
 def of_stops(root):
-    return conditions.runs() + disabling.runs() + stop_lines.runs() + watching.runs() + local_past.runs()
+    return conditions.runs() + disabling.runs() + stop_lines.runs() + watching.runs() + watched_expressions.runs() + local_past.runs()
 
 
 def of_devices(name):
@@ -121,7 +121,7 @@ SUBJECTS = {
         ("lane_counts", "lane_meetings", "lane_profile", "element_accesses", "element_touches", "profile_texts"), of_runs(profiles.runs)
     ),
     "adapter": Subject(
-        ("adapter_frames", "adapter_messages", "adapter_replies", "adapter_session", "adapter_server"),
+        ("adapter_frames", "adapter_messages", "adapter_replies", "adapter_session", "opened_texts", "adapter_server"),
         of_adapter,
         of_devices("an editor"),
     ),

@@ -231,3 +231,19 @@ a_waiting_lane = refl
 
 its_expression : get (codes "evaluateName") (variable_of kind.Waits (attributes false false) (codes "x[2]") (codes "5") (codes "int8") 0) ≡ Some (string (codes "x[2]"))
 its_expression = refl
+
+-- of a lane of an expression's value no expression is told; where it waits, its name and its value are marked
+a_lane_of_a_value : variable_of (kind.Lane false) (attributes false true) (codes "[1]") (codes "7") (codes "int32") 0
+    ≡ object
+    (member (codes "name") (string (codes "[1]"))
+    (member (codes "presentationHint") (hint (kind.Lane false) (attributes false true))
+    (member (codes "type") (string (codes "int32"))
+    (member (codes "value") (string (codes "7"))
+    (member (codes "variablesReference") (natural 0) no_members)))))
+a_lane_of_a_value = refl
+
+its_value_waits : get (codes "value") (variable_of (kind.Lane true) (attributes false true) (codes "[2]") (codes ".") (codes "int32") 0) ≡ Some (string (codes ". (waits)"))
+its_value_waits = refl
+
+its_name_waits : get (codes "name") (variable_of (kind.Lane true) (attributes false true) (codes "[2]") (codes ".") (codes "int32") 0) ≡ Some (string (codes "[2] (waits)"))
+its_name_waits = refl

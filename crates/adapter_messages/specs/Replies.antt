@@ -219,14 +219,20 @@ named_so shown attributes name value type reference =
     (member (codes "value") (string value)
     (member (codes "variablesReference") (natural reference) no_members))))
 
+-- a text, with the mark of a lane that is not active where it waits
+abbrev pub marked_if : (waits : Bool) → Bytes → Bytes
+marked_if true text = text ++ mark
+marked_if false text = text
+
 -- A variable of a kind. Behind the name and the value of a lane that is not active stands a mark, which its expression has not; of an array it is told how
--- many elements it has; and no expression shows a range of elements.
+-- many elements it has; and no expression shows a range of elements, or a lane of another expression.
 abbrev pub variable_of : VariableKind → (attributes : Items) → (name value type : Bytes) → (reference : ℕ) → Data
 variable_of kind.Plain attributes name value type reference = object (member (codes "evaluateName") (string name) (named_so kind.Plain attributes name value type reference))
 variable_of kind.Waits attributes name value type reference = object (member (codes "evaluateName") (string name) (named_so kind.Waits attributes (name ++ mark) (value ++ mark) type reference))
 variable_of (kind.Array elements) attributes name value type reference =
     object (member (codes "evaluateName") (string name) (member (codes "indexedVariables") (natural elements) (named_so (kind.Array elements) attributes name value type reference)))
 variable_of kind.Range attributes name value type reference = object (named_so kind.Range attributes name value type reference)
+variable_of (kind.Lane waits) attributes name value type reference = object (named_so (kind.Lane waits) attributes (marked_if waits name) (marked_if waits value) type reference)
 
 -- a variable
 abbrev pub variable : Variable → Data

@@ -2,7 +2,7 @@
 ghost use Rattle.std.specs.Prelude.{◌≡◌, ◌++◌, IfOk, codes, string_bytes};
 ghost use Rattle.serde_json.specs.Data.{array};
 ghost use Rattle.serde_json.specs.View.{view};
-ghost use Rattle.adapter_messages.specs.Replies.{array_of, attributes, hint, kind_text, only, variable, variable_of};
+ghost use Rattle.adapter_messages.specs.Replies.{array_of, attributes, hint, kind_text, marked_if, only, variable, variable_of};
 ghost use Rattle.adapter_messages.specs.Replies as spec;
 ghost use Rattle.adapter_messages.specs.Arguments.{mark};
 ghost use Rattle.adapter_requests.specs.declared.reply.VariableKind.TheVariants as kind;
@@ -33,6 +33,7 @@ fn variable_value(alloc: Global, variable: &Variable) -> Result<Value, AllocErro
         VariableKind::Waits => waiting_value(alloc, variable),
         VariableKind::Array(elements) => array_value(alloc, variable, elements),
         VariableKind::Range => range_value(alloc, variable),
+        VariableKind::Lane { waits } => lane_value(alloc, variable, waits),
     }
 }
 
@@ -67,7 +68,10 @@ fn kind_text(kind: VariableKind) -> &'static str
 {
     match kind {
         VariableKind::Range => "virtual",
-        VariableKind::Plain | VariableKind::Waits | VariableKind::Array(_) => "data",
+        VariableKind::Plain
+        | VariableKind::Waits
+        | VariableKind::Array(_)
+        | VariableKind::Lane { .. } => "data",
     }
 }
 
@@ -143,4 +147,31 @@ fn range_value(alloc: Global, variable: &Variable) -> Result<Value, AllocError>
         "value": variable.value.as_str(),
         "variablesReference": variable.reference
     })
+}
+
+/// A lane of the value of an expression.
+fn lane_value(alloc: Global, variable: &Variable, waits: bool) -> Result<Value, AllocError>
+    ensures { IfOk result (λ v. view v ≡ variable_of (kind.Lane waits) (attributes variable.now.is_constant variable.now.is_read_only) (string_bytes variable.now.name) (string_bytes variable.now.value) (string_bytes variable.now.type_name) variable.now.reference) }
+{
+    let hint = hint_value(alloc, VariableKind::Lane { waits }, variable)?;
+    let name = marked_if(alloc, waits, variable.name.as_str())?;
+    let value = marked_if(alloc, waits, variable.value.as_str())?;
+    json!(in alloc; {
+        "name": name.as_str(),
+        "presentationHint": hint,
+        "type": variable.type_name.as_str(),
+        "value": value.as_str(),
+        "variablesReference": variable.reference
+    })
+}
+
+/// A text, with the mark of a lane that is not active where it waits.
+fn marked_if(alloc: Global, waits: bool, text: &str) -> Result<String, AllocError>
+    ensures { IfOk result (λ shown. string_bytes shown ≡ marked_if waits text.now) }
+{
+    if waits {
+        marked(alloc, text)
+    } else {
+        String::from_str(alloc, text)
+    }
 }

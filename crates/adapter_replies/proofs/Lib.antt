@@ -10,6 +10,7 @@ pub mod Opening
 pub mod PageRanges
 pub mod ParameterLines
 pub mod Rows
+pub mod ShownAnswers
 pub mod ToldVariables
 pub mod TopFrame
 pub mod WorkedTargets

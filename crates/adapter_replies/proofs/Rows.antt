@@ -29,6 +29,7 @@ use Rattle.adapter_requests.specs.declared.request.Request.TheVariants as reques
 use Rattle.adapter_requests.specs.declared.request.LineBreakpoint.{LineBreakpoint}
 use Rattle.adapter_replies.specs.declared.places.Place.TheVariants as place
 use Rattle.adapter_replies.specs.Breakpoints.{breakpoint_of, is_part, on_function, told_breakpoint, watches_target}
+use Rattle.adapter_replies.specs.Children.{expression_in, told_lanes}
 use Rattle.adapter_replies.specs.Columns.{front, utf16_length}
 use Rattle.adapter_replies.specs.Completions.{command_names, completed, frame_or, name_length}
 use Rattle.value_digits.specs.declared.digits.Digits.TheVariants as in_digits
@@ -84,6 +85,16 @@ range_of_parameter = refl
 
 no_reference : place_of 0 ≡ place.Nothing
 no_reference = refl
+
+-- the expressions of a table are counted from 0, and there are at most 64
+second_expression : place_of 2000 ≡ place.Expression 1
+second_expression = refl
+
+no_65th_expression : place_of 65000 ≡ place.Nothing
+no_65th_expression = refl
+
+no_expression_is_set : is_set_there 1 (place_of 1000) ≡ false
+no_expression_is_set = refl
 
 -- ---- variables
 
@@ -185,6 +196,29 @@ of_the_lowest_lane = refl
 
 in_no_lane : one_text form.Value t.Bool (false ∷ false ∷ []) (0 ∷ 1 ∷ []) ≡ codes "."
 in_no_lane = refl
+
+-- a lane that waits is marked and has no value; a uniform value has no lanes
+names_of_lanes : map (λ told. told.name) (told_lanes rate.Varying form.Value whole_page t.Int8 (true ∷ false ∷ []) (5 ∷ 0 ∷ []) 2) ≡ codes "[0]" ∷ codes "[1]" ∷ []
+unfolding digits value_of
+names_of_lanes = refl
+
+values_of_lanes : map (λ told. told.value) (told_lanes rate.Varying form.Value whole_page t.Int8 (true ∷ false ∷ []) (5 ∷ 0 ∷ []) 2) ≡ codes "5" ∷ codes "." ∷ []
+unfolding digits value_of
+values_of_lanes = refl
+
+kinds_of_lanes : map (λ told. told.kind) (told_lanes rate.Varying form.Value whole_page t.Int8 (true ∷ false ∷ []) (5 ∷ 0 ∷ []) 2) ≡ kind.Lane false ∷ kind.Lane true ∷ []
+unfolding digits value_of
+kinds_of_lanes = refl
+
+lanes_of_a_uniform_value : told_lanes rate.Uniform form.Value whole_page t.Int8 (true ∷ false ∷ []) (5 ∷ 0 ∷ []) 2 ≡ []
+lanes_of_a_uniform_value = refl
+
+-- a line of the console that spells a command opens nothing, and of one that prints an expression what stands behind the word
+of_a_command : expression_in Console (codes "info locals") ≡ None
+of_a_command = refl
+
+of_what_is_printed : expression_in Console (codes "p/x v + 1") ≡ Some (codes " v + 1")
+of_what_is_printed = refl
 
 short_under_the_mouse : shown_in Hover (codes "5 6") ≡ codes "5 6"
 short_under_the_mouse = refl

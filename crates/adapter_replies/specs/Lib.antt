@@ -1,5 +1,6 @@
 pub mod Asking
 pub mod Breakpoints
+pub mod Children
 pub mod Columns
 pub mod Completions
 pub mod Console

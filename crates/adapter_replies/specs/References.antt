@@ -1,12 +1,17 @@
 -- What the references stand for by which an editor asks for variables.
-use Rattle.std.specs.Prelude.{ℕ, Bool, true, false, ◌/◌, ◌%◌, ◌==◌, ◌&&◌, nat_lt, not, if◌then◌else◌}
+use Rattle.std.specs.Prelude.{ℕ, zero, suc, Bool, true, false, ◌/◌, ◌%◌, ◌==◌, ◌&&◌, nat_lt, not, Option, Some, None, if◌then◌else◌}
 use Rattle.adapter_replies.specs.declared.places.Place.{Place}
 use Rattle.adapter_replies.specs.declared.places.Place.TheVariants as place
 use Rattle.adapter_replies.specs.declared.places.Scope.TheVariants.{Locals, Arguments}
 
+-- the lanes of the value of the expression for which a number stands: 1 for the first one of a table, which has at most 64
+abbrev pub expression_at : (number : ℕ) → Place
+expression_at zero = place.Nothing
+expression_at (suc index) = if nat_lt index 64 then place.Expression index else place.Nothing
+
 -- what a kind, a depth and a number stand for: 1 and 2 the local variables and the parameters of the frame at the depth, 3 and 4 the parts of one of them
 -- by its number, 5 the variables of the file, 6 the parts of one of those; 7, 8 and 9 a range of the elements of one, where the number is RANGE VARIABLE with
--- three digits for the variable's number
+-- three digits for the variable's number; 0 the lanes of an expression's value
 abbrev pub numbered : (kind depth number : ℕ) → Place
 numbered kind deep number =
     if kind == 1 then place.Variables Locals deep
@@ -17,7 +22,8 @@ numbered kind deep number =
     else (if kind == 6 then place.OfFile number
     else (if kind == 7 then place.Range Locals deep (number % 1000) (number / 1000)
     else (if kind == 8 then place.Range Arguments deep (number % 1000) (number / 1000)
-    else (if kind == 9 then place.FileRange (number % 1000) (number / 1000) else place.Nothing))))))))
+    else (if kind == 9 then place.FileRange (number % 1000) (number / 1000)
+    else (if kind == 0 then expression_at number else place.Nothing)))))))))
 
 -- a reference is written NUMBER DEPTH KIND: two digits are the depth's, the last one is the kind's
 abbrev pub place_of : ℕ → Place
@@ -39,6 +45,7 @@ within place.File = place.File
 within (place.OfFile number) = if has_room 0 number then place.OfFile number else place.Nothing
 within (place.Range scope deep number range) = if has_range_room deep number range then place.Range scope deep number range else place.Nothing
 within (place.FileRange number range) = if has_range_room 0 number range then place.FileRange number range else place.Nothing
+within (place.Expression index) = if nat_lt index 64 then place.Expression index else place.Nothing
 within place.Nothing = place.Nothing
 
 -- a range of the elements of the variable whose parts are at a place
@@ -70,4 +77,10 @@ is_set_there top place.File = true
 is_set_there top (place.OfFile number) = true
 is_set_there top (place.Range scope deep number range) = deep == top
 is_set_there top (place.FileRange number range) = true
+is_set_there top (place.Expression index) = false
 is_set_there top place.Nothing = false
+
+-- the index of the expression whose value is at a place
+abbrev pub expression_index : Place → Option ℕ
+expression_index (place.Expression index) = Some index
+expression_index other = None

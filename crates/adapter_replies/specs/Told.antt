@@ -202,16 +202,25 @@ IsLookedUp s d (Some given) frame context text is_hexadecimal told = IsPrinted (
 IsLookedUp s d None None context text is_hexadecimal told = told ≡ reply.Done
 IsLookedUp s d None (Some frame) context text is_hexadecimal told = IsNameToldIn (is_frame (depth (now s d)) frame) s d frame (asking_of context text is_hexadecimal) told
 
--- what a request is told where a machine stands for a debugger
+-- what a request to evaluate is told where a machine stands for a debugger
+abbrev pub IsEvaluateTold : Setting → Debugger → (last : Option Answer) → Request → Reply → Type 0
+IsEvaluateTold s d last (request.Evaluate expression frame context is_hexadecimal) told = IsLookedUp s d last frame context expression.now is_hexadecimal told
+IsEvaluateTold s d last other told = Unit {0}
+
+-- what a request is told there that only looks
+abbrev pub IsLookTold : Setting → Debugger → Request → Reply → Type 0
+IsLookTold s d request.Threads told = AreThreadsTold told
+IsLookTold s d (request.StackTrace thread start levels) told = AreFramesTold start levels (all_frames s.program (now s d).frames) told
+IsLookTold s d (request.Scopes frame) told = AreScopesTold (is_frame (depth (now s d)) frame) frame told
+IsLookTold s d (request.Variables reference page is_hexadecimal) told = AreVariablesTold (told_now (form_if is_hexadecimal) page s d reference) told
+IsLookTold s d (request.DataBreakpointInfo name) told = IsWatchableTold (is_watchable s d name.now) name.now told
+IsLookTold s d (request.Completions text column frame) told = AreCompletionsToldIn s d (frame_or (depth (now s d)) frame) (front text.now column) told
+IsLookTold s d other told = Unit {0}
+
+-- what a request is told there
 abbrev pub IsToldOf : Setting → Debugger → (last : Option Answer) → Request → Reply → Type 0
-IsToldOf s d last request.Threads told = AreThreadsTold told
-IsToldOf s d last (request.StackTrace thread start levels) told = AreFramesTold start levels (all_frames s.program (now s d).frames) told
-IsToldOf s d last (request.Scopes frame) told = AreScopesTold (is_frame (depth (now s d)) frame) frame told
-IsToldOf s d last (request.Variables reference page is_hexadecimal) told = AreVariablesTold (told_now (form_if is_hexadecimal) page s d reference) told
-IsToldOf s d last (request.Evaluate expression frame context is_hexadecimal) told = IsLookedUp s d last frame context expression.now is_hexadecimal told
-IsToldOf s d last (request.DataBreakpointInfo name) told = IsWatchableTold (is_watchable s d name.now) name.now told
-IsToldOf s d last (request.Completions text column frame) told = AreCompletionsToldIn s d (frame_or (depth (now s d)) frame) (front text.now column) told
-IsToldOf s d last other told = Unit {0}
+IsToldOf s d last (request.Evaluate expression frame context is_hexadecimal) told = IsEvaluateTold s d last (request.Evaluate expression frame context is_hexadecimal) told
+IsToldOf s d last other told = IsLookTold s d other told
 
 -- what a request is told that has the same reply always
 abbrev pub fixed_reply : Request → Option Reply
@@ -324,7 +333,24 @@ abbrev pub shown_values : State → model.Answer → Form → Bytes
 shown_values state (model.Shows target v) form = values form v.type (target_words state target v)
 shown_values state other form = []
 
--- what a request is told by the last answer, with its text and the values that it shows in a form
+-- whether an answer shows values
+abbrev pub has_values : Answer → Bool
+has_values (answer.Shows target shown) = true
+has_values other = false
+
+-- these values, if an answer shows some
+abbrev pub shown_option : Answer → (values : Bytes) → Option Bytes
+shown_option (answer.Shows target shown) values = Some values
+shown_option other values = None
+
+-- what a request to set or to evaluate is told by the last answer, with its text and the values that it shows in a form
+abbrev pub IsValueAnswered : Option Answer → (text : Bytes) → (values : Form → Bytes) → Request → Reply → Type 0
+IsValueAnswered last text values (request.SetVariable reference name value is_hexadecimal) told = IsSetTold last text (values (form_if is_hexadecimal)) told
+IsValueAnswered last text values (request.SetExpression expression value frame is_hexadecimal) told = IsSetTold last text (values (form_if is_hexadecimal)) told
+IsValueAnswered last text values (request.Evaluate expression frame context is_hexadecimal) told = IsEvaluated context expression.now is_hexadecimal last text (values (form_if is_hexadecimal)) told
+IsValueAnswered last text values other told = Unit {0}
+
+-- what a request is told by the last answer
 abbrev pub IsAnswered : Option Answer → (text : Bytes) → (values : Form → Bytes) → Request → Reply → Type 0
 IsAnswered last text values request.Next told = IsMoveTold last text told
 IsAnswered last text values request.StepIn told = IsMoveTold last text told
@@ -333,7 +359,4 @@ IsAnswered last text values request.Continue told = IsMoveTold last text told
 IsAnswered last text values request.StepBack told = IsMoveTold last text told
 IsAnswered last text values request.ReverseContinue told = IsMoveTold last text told
 IsAnswered last text values (request.Goto line way) told = IsGotoTold last text told
-IsAnswered last text values (request.SetVariable reference name value is_hexadecimal) told = IsSetTold last text (values (form_if is_hexadecimal)) told
-IsAnswered last text values (request.SetExpression expression value frame is_hexadecimal) told = IsSetTold last text (values (form_if is_hexadecimal)) told
-IsAnswered last text values (request.Evaluate expression frame context is_hexadecimal) told = IsEvaluated context expression.now is_hexadecimal last text (values (form_if is_hexadecimal)) told
-IsAnswered last text values other told = Unit {0}
+IsAnswered last text values other told = IsValueAnswered last text values other told

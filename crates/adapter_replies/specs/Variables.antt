@@ -233,7 +233,7 @@ of_scope Arguments locals arguments = arguments
 abbrev pub scope_list : Setting → Debugger → Scope → (depth : ℕ) → List model.Variable
 scope_list s d scope deep = of_scope scope (listed_at s d deep) (listed_parameters_at s d deep)
 
--- what is told of a place; the variables of the file are those that the top frame finds
+-- what is told of a place; the variables of the file are those that the top frame finds, and which expression is meant at an index is not known here
 abbrev pub told_of : Form → Page → Setting → Debugger → Place → Option (List ToldVariable)
 told_of form page s d (place.Variables scope deep) = Some (told_scope page (told_each form s d deep (place.Parts scope deep) 0 (scope_list s d scope deep)))
 told_of form page s d (place.Parts scope deep number) = told_option form page s d deep (place.Parts scope deep number) (slice_get (scope_list s d scope deep) number)
@@ -241,6 +241,7 @@ told_of form page s d (place.Range scope deep number range) = told_range_option 
 told_of form page s d place.File = Some (told_scope page (told_each form s d (depth (now s d)) place.OfFile 0 (take 1000 (file_variables s))))
 told_of form page s d (place.OfFile number) = told_option form page s d (depth (now s d)) (place.OfFile number) (slice_get (file_variables s) number)
 told_of form page s d (place.FileRange number range) = told_range_option form page s d (depth (now s d)) range (slice_get (file_variables s) number)
+told_of form page s d (place.Expression index) = None
 told_of form page s d place.Nothing = None
 
 -- what is told of a reference; nothing of one that names a frame which is not there

@@ -1,5 +1,5 @@
 //! What an expression, or a line of the console, is told.
-ghost use Rattle.std.specs.Prelude.{◌≡◌, IfOk, None, Some, false, string_bytes};
+ghost use Rattle.std.specs.Prelude.{◌≡◌, IfOk, None, Some, false, is_some, option_map, string_bytes};
 ghost use Rattle.gang_model.specs.Debugger.Debugger as model;
 ghost use Rattle.gang_model.specs.Debugger.Debugger.{Debugger, Setting, now};
 ghost use Rattle.gang_model.specs.Texts.Text.{text};
@@ -9,11 +9,11 @@ ghost use Rattle.adapter_replies.specs.Asking.{asking_of, asking_view};
 ghost use Rattle.adapter_replies.specs.Forms.{form_if};
 ghost use Rattle.adapter_replies.specs.Opened.{unless_refused};
 ghost use Rattle.adapter_replies.specs.References.{place_of};
-ghost use Rattle.adapter_replies.specs.Told.{IsAnsweredIn, IsEvaluated, IsLineTold, IsLookedUp, IsSetTold, IsTextTold, IsValueTold, MeansLast, is_expression, is_line, is_told_whole, is_unnamed, shown_values, told_place};
+ghost use Rattle.adapter_replies.specs.Told.{IsAnsweredIn, IsEvaluated, IsLineTold, IsLookedUp, IsSetTold, IsTextTold, MeansLast, has_values, is_expression, is_line, is_told_whole, is_unnamed, shown_option, shown_values, told_place};
 
 use crate::asking::{Asking, asking_of};
 use crate::expressions::shown_in;
-use crate::forms::form_if;
+use crate::forms::{Form, form_if};
 use crate::opened::opened_by;
 use crate::places::{depth_of, is_frame};
 use crate::replies::{NO_FRAME, refused};
@@ -78,11 +78,28 @@ pub(crate) fn set<M: FramedMachine>(
     let Some(answer) = last else {
         return refused(alloc, NOT_SET);
     };
-    if let Answer::Shows { target, shown } = answer {
-        let form = form_if(is_hexadecimal);
-        return Ok(Reply::Set(top_text(alloc, machine, form, shown, target.at)?));
+    match values_of(alloc, machine, form_if(is_hexadecimal), answer)? {
+        Some(values) => Ok(Reply::Set(values)),
+        None => Ok(Reply::Refused(answer_text(alloc, &answer, machine, stops)?)),
     }
-    Ok(Reply::Refused(answer_text(alloc, &answer, machine, stops)?))
+}
+
+/// The values that an answer shows, if it shows some.
+fn values_of<M: FramedMachine>(
+    alloc: Global,
+    machine: &M,
+    form: Form,
+    answer: Answer<'_>,
+) -> Result<Option<String>, AllocError>
+    ensures shown { IfOk result (λ values. is_some values ≡ has_values answer.entry) }
+    ensures values { (s : Setting) (at d : Debugger) (meant : model.Answer) → M.stands machine.now s at → at.events ≡ d.events → Means s d answer.entry meant
+        → IfOk result (λ values. option_map string_bytes values ≡ shown_option answer.entry (shown_values (now s d) meant form)) }
+{
+    let Answer::Shows { target, shown } = answer else {
+        return Ok(None);
+    };
+    let values = top_text(alloc, machine, form, shown, target.at)?;
+    Ok(Some(values))
 }
 
 /// The value of an expression in the top frame, or the answer to a line of the console; or why there is none.
@@ -106,7 +123,7 @@ pub(crate) fn evaluated<M: ExpressionMachine>(
     Ok(told)
 }
 
-/// The answer to a line of the console, or the value that it shows; with the reference of that.
+/// The answer to a line of the console, or the value that it shows, with the reference of that; or why there is none.
 fn answered<M: FramedMachine>(
     alloc: Global,
     machine: &M,
@@ -121,9 +138,18 @@ fn answered<M: FramedMachine>(
     ensures opens { IfOk result (λ told. told_place told ≡ unless_refused answer.entry (place_of reference)) }
 {
     if is_told_whole(line.context, line.is_hexadecimal) {
-        line_of(alloc, machine, stops, answer, reference)
-    } else {
-        value_of(alloc, machine, stops, line, answer, reference)
+        return line_of(alloc, machine, stops, answer, reference);
+    }
+    match values_of(alloc, machine, form_if(line.is_hexadecimal), answer)? {
+        None => line_of(alloc, machine, stops, answer, reference),
+        Some(values) => {
+            let text = shown_in(alloc, line.context, values)?;
+            Ok(Reply::Evaluated {
+                text,
+                reason: None,
+                reference,
+            })
+        }
     }
 }
 
@@ -145,7 +171,7 @@ fn is_expression(context: Context, text: &str, answer: &Answer<'_>) -> bool
 }
 
 /// Whether a text is a line of the console that spells a command.
-fn is_line(context: Context, text: &str) -> bool
+pub(crate) fn is_line(context: Context, text: &str) -> bool
     ensures { result ≡ is_line context text.now }
 {
     match context {
@@ -194,32 +220,4 @@ fn told_line(text: String, answer: &Answer<'_>, reference: u64) -> Reply
             reference,
         },
     }
-}
-
-/// The values of a variable and its reference, or why there are none.
-fn value_of<M: FramedMachine>(
-    alloc: Global,
-    machine: &M,
-    stops: &[NumberedStop],
-    line: Line<'_>,
-    answer: Answer<'_>,
-    reference: u64,
-) -> Result<Reply, AllocError>
-    ensures answered { (s : Setting) (at d : Debugger) (meant : model.Answer) → M.stands machine.now s at → at.events ≡ d.events → AreStops s stops.now d.stops
-        → Means s d answer.entry meant
-        → IfOk result (λ told. IsValueTold line.entry.context answer.entry (text s meant d) (shown_values (now s d) meant (form_if line.entry.is_hexadecimal)) told) }
-    ensures opens { IfOk result (λ told. told_place told ≡ unless_refused answer.entry (place_of reference)) }
-{
-    if let Answer::Shows { target, shown } = answer {
-        let form = form_if(line.is_hexadecimal);
-        let values = top_text(alloc, machine, form, shown, target.at)?;
-        let text = shown_in(alloc, line.context, values)?;
-        return Ok(Reply::Evaluated {
-            text,
-            reason: None,
-            reference,
-        });
-    }
-    let reply = line_of(alloc, machine, stops, answer, reference)?;
-    Ok(reply)
 }

@@ -139,7 +139,7 @@ fn gap(lane: usize) -> &'static str
 }
 
 /// The value of a lane, or a point where it waits.
-fn lane_text(
+pub(crate) fn lane_text(
     alloc: Global,
     form: Form,
     value_type: IntType,

@@ -3,6 +3,7 @@
 
 mod asking;
 mod breakpoints;
+mod children;
 mod columns;
 mod completions;
 mod console;
@@ -26,9 +27,10 @@ mod threads;
 mod waiting;
 
 pub use breakpoints::can_watch;
+pub use children::{OpenedExpression, expression_variables, opened_expression, with_reference};
 pub use exceptions::exception_reply;
 pub use expressions::no_value_text;
-pub use places::{depth_of, is_set_there};
+pub use places::{depth_of, expression_index, expression_reference, is_set_there};
 pub use replies::reply_to;
 pub use stops::{stop_behind, stop_of};
 pub use texts::answer_text;

@@ -1,8 +1,9 @@
 //! The references by which an editor asks for variables.
-ghost use Rattle.std.specs.Prelude.{◌≡◌, ◌<◌, ◌*◌, ◌+◌, if◌then◌else◌};
+ghost use Rattle.std.specs.Prelude.{◌≡◌, ◌<◌, ◌*◌, ◌/◌, ◌%◌, ◌+◌, if◌then◌else◌};
 ghost use Rattle.gang_model.specs.Debugger.Debugger as model;
 ghost use Rattle.gang_model.specs.Debugger.Debugger.{Debugger, Setting, now};
-ghost use Rattle.adapter_replies.specs.References.{has_range_room, has_room, is_frame, is_set_there, is_there, numbered, place_now, place_of, range_of, within};
+ghost use Rattle.adapter_replies.specs.References as spec;
+ghost use Rattle.adapter_replies.specs.References.{expression_at, has_range_room, has_room, is_frame, is_set_there, is_there, numbered, place_now, place_of, range_of, within};
 ghost use Rattle.adapter_replies.specs.Variables.{is_outer};
 ghost use Rattle.adapter_replies.specs.declared.places.Place.TheVariants as place;
 
@@ -47,6 +48,10 @@ pub(crate) enum Place {
         number: usize,
         range: usize,
     },
+    /// The lanes of the value of the expression at an index of a table of such.
+    Expression {
+        index: usize,
+    },
     Nothing,
 }
 
@@ -63,6 +68,9 @@ const NUMBERS: usize = 2_147_483;
 const VARIABLES: usize = 1_000;
 
 const RANGES: usize = 2_147;
+
+/// How many expressions a table has whose values open.
+const EXPRESSIONS: usize = 64;
 
 /// How deep the program is; one that has ended counts as depth 1.
 pub fn depth_of<M: RecordedMachine>(machine: &M) -> usize
@@ -125,23 +133,37 @@ fn numbered(kind: u64, depth: usize, number: usize) -> Place
         },
         5 => Place::File,
         6 => Place::OfFile(number),
-        7 => Place::Range {
-            scope: Scope::Locals,
-            depth,
-            number: number % VARIABLES,
-            range: number / VARIABLES,
-        },
-        8 => Place::Range {
-            scope: Scope::Arguments,
-            depth,
-            number: number % VARIABLES,
-            range: number / VARIABLES,
-        },
+        7 => range_at(Scope::Locals, depth, number),
+        8 => range_at(Scope::Arguments, depth, number),
         9 => Place::FileRange {
             number: number % VARIABLES,
             range: number / VARIABLES,
         },
+        0 => expression_at(number),
         _ => Place::Nothing,
+    }
+}
+
+/// The range of the elements of a variable of the frame at a depth for which a number stands.
+fn range_at(scope: Scope, depth: usize, number: usize) -> Place
+    ensures { result ≡ place.Range scope depth (number % 1000) (number / 1000) }
+{
+    Place::Range {
+        scope,
+        depth,
+        number: number % VARIABLES,
+        range: number / VARIABLES,
+    }
+}
+
+/// The lanes of the value of the expression for which a number stands: 1 for the first one.
+fn expression_at(number: usize) -> Place
+    ensures { result ≡ expression_at number }
+{
+    if number == 0 || number > EXPRESSIONS {
+        Place::Nothing
+    } else {
+        Place::Expression { index: number - 1 }
     }
 }
 
@@ -183,7 +205,29 @@ pub(crate) fn reference_of(place: Place) -> u64
             range,
         } => range_reference(8, depth, number, range),
         Place::FileRange { number, range } => range_reference(9, 0, number, range),
+        Place::Expression { index } => expression_reference(index),
         Place::Nothing => 0,
+    }
+}
+
+/// The reference of the value of the expression at this index of a table of such, 0 from index 64 on.
+pub fn expression_reference(index: usize) -> u64
+    ensures { place_of result ≡ within (place.Expression index) }
+{
+    if index < EXPRESSIONS {
+        reference(0, 0, index + 1)
+    } else {
+        0
+    }
+}
+
+/// The index of the expression of a table whose value a reference opens, if it is such a reference.
+pub fn expression_index(reference: u64) -> Option<usize>
+    ensures { result ≡ spec.expression_index (place_of reference) }
+{
+    match place_of(reference) {
+        Place::Expression { index } => Some(index),
+        _ => None,
     }
 }
 
@@ -231,6 +275,7 @@ pub(crate) fn range_of(place: Place, range: usize) -> Place
         | Place::File
         | Place::Range { .. }
         | Place::FileRange { .. }
+        | Place::Expression { .. }
         | Place::Nothing => Place::Nothing,
     }
 }
@@ -264,7 +309,11 @@ fn is_there(top: usize, place: Place) -> bool
             number: _,
             range: _,
         } => is_frame(top, depth),
-        Place::File | Place::OfFile(_) | Place::FileRange { .. } | Place::Nothing => true,
+        Place::File
+        | Place::OfFile(_)
+        | Place::FileRange { .. }
+        | Place::Expression { .. }
+        | Place::Nothing => true,
     }
 }
 
@@ -287,6 +336,6 @@ pub fn is_set_there(top: usize, reference: u64) -> bool
             range: _,
         } => depth == top,
         Place::File | Place::OfFile(_) | Place::FileRange { .. } => true,
-        Place::Nothing => false,
+        Place::Expression { .. } | Place::Nothing => false,
     }
 }

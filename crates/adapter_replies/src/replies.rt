@@ -11,7 +11,7 @@ ghost use Rattle.adapter_replies.specs.References.{is_frame, place_of, within};
 ghost use Rattle.adapter_replies.specs.Variables.{told_now};
 ghost use Rattle.adapter_replies.specs.declared.places.Place.TheVariants as place;
 ghost use Rattle.adapter_replies.specs.declared.places.Scope.TheVariants.{Arguments, Locals};
-ghost use Rattle.adapter_replies.specs.Told.{AreBreakpointsTold, AreCompletionsToldIn, AreFramesTold, AreScopesTold, AreThreadsTold, AreVariablesTold, IsAnswered, IsGotoTold, IsMoveTold, IsToldOf, MeansLast, fixed_reply, is_ended, refusal_text, shown_values, told_stop};
+ghost use Rattle.adapter_replies.specs.Told.{AreBreakpointsTold, AreCompletionsToldIn, AreFramesTold, AreScopesTold, AreThreadsTold, AreVariablesTold, IsAnswered, IsEvaluateTold, IsGotoTold, IsLookTold, IsMoveTold, IsToldOf, IsValueAnswered, MeansLast, fixed_reply, is_ended, refusal_text, shown_values, told_stop};
 
 use crate::breakpoints::{breakpoints, functions, watchable, watches};
 use crate::columns::front_of;
@@ -64,9 +64,62 @@ pub fn reply_to<M: ExpressionMachine>(
     ensures refused { IfSome (refusal_text request.now) (λ text. IfOk result (λ told. told_stop told ≡ Some (None, text))) }
 {
     match request {
+        Request::SetBreakpoints { .. }
+        | Request::SetFunctionBreakpoints { .. }
+        | Request::SetDataBreakpoints { .. }
+        | Request::BreakpointLocations { .. }
+        | Request::GotoTargets { .. } => placed(alloc, machine, stops, request, is_program),
+        Request::SetVariable { .. } | Request::SetExpression { .. } | Request::Evaluate { .. } => {
+            valued(alloc, machine, stops, request, last)
+        }
+        Request::Next
+        | Request::StepIn
+        | Request::StepOut
+        | Request::Continue
+        | Request::StepBack
+        | Request::ReverseContinue => moved(alloc, machine, stops, last),
+        Request::Goto { .. } => gone(alloc, machine, stops, last),
+        Request::Threads
+        | Request::StackTrace { .. }
+        | Request::Scopes { .. }
+        | Request::Variables { .. }
+        | Request::Completions { .. }
+        | Request::DataBreakpointInfo { .. } => looked(alloc, machine, request),
+        Request::Initialize
+        | Request::SetExceptionBreakpoints
+        | Request::ConfigurationDone
+        | Request::Terminate
+        | Request::Disconnect
+        | Request::ExceptionInfo
+        | Request::Pause
+        | Request::Launch(_)
+        | Request::Restart
+        | Request::Unknown(_) => plain(alloc, request),
+    }
+}
+
+/// What a request is told that asks for breakpoints or watches, or for the lines on which there can be some or to which the program can
+/// go; another one that it is done.
+fn placed<M: ExpressionMachine>(
+    alloc: Global,
+    machine: &M,
+    stops: &[NumberedStop],
+    request: &Request<'_>,
+    is_program: bool,
+) -> Result<Reply, AllocError>
+    ensures { (s : Setting) (d : Debugger) (meant : List (ℕ × model.Stop)) → M.stands machine.now s d → AreStops s stops.now meant
+        → IfOk result (AreBreakpointsTold s d is_program meant request.now) }
+{
+    match request {
         Request::SetBreakpoints { source: _, lines } => {
             let made = breakpoints(alloc, machine, stops, lines, is_program)?;
             Ok(Reply::Breakpoints(made))
+        }
+        Request::SetFunctionBreakpoints { functions: asked } => Ok(Reply::Breakpoints(functions(
+            alloc, machine, stops, asked,
+        )?)),
+        Request::SetDataBreakpoints { targets } => {
+            Ok(Reply::Breakpoints(watches(alloc, machine, stops, targets)?))
         }
         Request::BreakpointLocations {
             source: _,
@@ -79,25 +132,29 @@ pub fn reply_to<M: ExpressionMachine>(
         Request::GotoTargets { source: _, line } => {
             Ok(Reply::Targets(goto_line(machine, is_program, *line)))
         }
-        Request::SetFunctionBreakpoints { functions: asked } => Ok(Reply::Breakpoints(functions(
-            alloc, machine, stops, asked,
-        )?)),
-        Request::SetDataBreakpoints { targets } => {
-            Ok(Reply::Breakpoints(watches(alloc, machine, stops, targets)?))
+        _ => Ok(Reply::Done),
+    }
+}
+
+/// What a request is told that sets a variable or evaluates, by the answer to its line; another one that it is done.
+fn valued<M: ExpressionMachine>(
+    alloc: Global,
+    machine: &M,
+    stops: &[NumberedStop],
+    request: &Request<'_>,
+    last: Option<Answer<'_>>,
+) -> Result<Reply, AllocError>
+    ensures stands { (s : Setting) (d : Debugger) → M.stands machine.now s d
+        → IfOk result (IsEvaluateTold s d last.entry request.now) }
+    ensures answered { (s : Setting) (at d : Debugger) (meant : model.Answer) → M.stands machine.now s at → at.events ≡ d.events → AreStops s stops.now d.stops
+        → MeansLast s d last.entry meant
+        → IfOk result (IsValueAnswered last.entry (text s meant d) (shown_values (now s d) meant) request.now) }
+{
+    match request {
+        Request::SetVariable { is_hexadecimal, .. }
+        | Request::SetExpression { is_hexadecimal, .. } => {
+            set(alloc, machine, stops, *is_hexadecimal, last)
         }
-        Request::DataBreakpointInfo { name } => watchable(alloc, machine, name),
-        Request::SetVariable {
-            reference: _,
-            name: _,
-            value: _,
-            is_hexadecimal,
-        }
-        | Request::SetExpression {
-            expression: _,
-            value: _,
-            frame: _,
-            is_hexadecimal,
-        } => set(alloc, machine, stops, *is_hexadecimal, last),
         Request::Evaluate {
             expression,
             frame,
@@ -114,18 +171,26 @@ pub fn reply_to<M: ExpressionMachine>(
                 None => looked_up(alloc, machine, *frame, line),
             }
         }
-        Request::Next
-        | Request::StepIn
-        | Request::StepOut
-        | Request::Continue
-        | Request::StepBack
-        | Request::ReverseContinue => moved(alloc, machine, stops, last),
-        Request::Goto { .. } => gone(alloc, machine, stops, last),
+        _ => Ok(Reply::Done),
+    }
+}
+
+/// What a request is told that only looks; another one that it is done.
+fn looked<M: ExpressionMachine>(
+    alloc: Global,
+    machine: &M,
+    request: &Request<'_>,
+) -> Result<Reply, AllocError>
+    ensures { (s : Setting) (d : Debugger) → M.stands machine.now s d → IfOk result (IsLookTold s d request.now) }
+{
+    match request {
+        Request::Threads => threads(alloc),
         Request::StackTrace {
             thread: _,
             start,
             levels,
         } => stack(alloc, machine, *start, *levels),
+        Request::Scopes { frame } => scopes(alloc, machine, *frame),
         Request::Variables {
             reference,
             page,
@@ -136,17 +201,23 @@ pub fn reply_to<M: ExpressionMachine>(
             column,
             frame,
         } => completed(alloc, machine, *frame, text.as_bytes(), *column),
-        Request::Scopes { frame } => scopes(alloc, machine, *frame),
-        Request::Threads => threads(alloc),
+        Request::DataBreakpointInfo { name } => watchable(alloc, machine, name),
+        _ => Ok(Reply::Done),
+    }
+}
+
+/// What a request is told that has one reply always; another one that it is done.
+fn plain(alloc: Global, request: &Request<'_>) -> Result<Reply, AllocError>
+    ensures fixed { IfSome (fixed_reply request.now) (λ reply. IfOk result (λ told. told ≡ reply)) }
+    ensures refused { IfSome (refusal_text request.now) (λ text. IfOk result (λ told. told_stop told ≡ Some (None, text))) }
+{
+    match request {
         Request::Initialize => Ok(Reply::Capabilities),
-        Request::SetExceptionBreakpoints
-        | Request::ConfigurationDone
-        | Request::Terminate
-        | Request::Disconnect => Ok(Reply::Done),
         Request::ExceptionInfo => refused(alloc, NO_FAULT),
         Request::Pause => refused(alloc, STANDS),
         Request::Launch(_) | Request::Restart => refused(alloc, "the program is launched already"),
         Request::Unknown(name) => unknown(alloc, name),
+        _ => Ok(Reply::Done),
     }
 }
 
@@ -233,7 +304,7 @@ fn completed_at<M: FramedMachine>(
 }
 
 /// The depth of the frame of a number, or of the top one.
-fn frame_or(top: usize, frame: Option<u64>) -> usize
+pub(crate) fn frame_or(top: usize, frame: Option<u64>) -> usize
     ensures { result ≡ frame_or top frame }
 {
     match frame {

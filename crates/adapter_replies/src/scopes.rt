@@ -6,7 +6,7 @@ ghost use Rattle.gang_model.specs.Debugger.Debugger.{Debugger, Setting, now};
 ghost use Rattle.debug_traits.specs.Frames.{IsShownAt, ShowsNamedAt, ShowsNextAt};
 ghost use Rattle.debug_traits.specs.Machines.{file_variables};
 ghost use Rattle.adapter_replies.specs.References.{place_of};
-ghost use Rattle.adapter_replies.specs.Variables.{ShowsOptionAt, is_found, is_outer, of_scope, scope_list, told_each, told_now, told_one, told_whole, type_text, variable_view, whole_kind, whole_text, words_at};
+ghost use Rattle.adapter_replies.specs.Variables.{ShowsOptionAt, is_found, is_outer, of_scope, scope_list, told_each, told_now, told_one, told_option, told_whole, type_text, variable_view, whole_kind, whole_text, words_at};
 ghost use Rattle.adapter_replies.specs.declared.places.Place.TheVariants as place;
 
 use crate::forms::Form;
@@ -43,15 +43,7 @@ pub(crate) fn variables<M: FramedMachine>(
             scope,
             depth,
             number,
-        } => {
-            let place = Place::Parts {
-                scope,
-                depth,
-                number,
-            };
-            let named = variable_of(machine, scope, depth, number);
-            parts_of(alloc, machine, form, depth, place, named, page)
-        }
+        } => parts_in_frame(alloc, machine, form, scope, depth, number, page),
         Place::Range {
             scope,
             depth,
@@ -65,24 +57,61 @@ pub(crate) fn variables<M: FramedMachine>(
             let told = of_file(alloc, machine, form, top)?;
             Ok(Some(named_of(alloc, told, page)?))
         }
-        Place::OfFile(number) => {
-            let named = file_variable(machine, top, number);
-            parts_of(
-                alloc,
-                machine,
-                form,
-                top,
-                Place::OfFile(number),
-                named,
-                page,
-            )
-        }
+        Place::OfFile(number) => parts_in_file(alloc, machine, form, top, number, page),
         Place::FileRange { number, range } => {
             let named = file_variable(machine, top, number);
             range_parts_of(alloc, machine, form, top, range, named, page)
         }
-        Place::Nothing => Ok(None),
+        Place::Expression { .. } | Place::Nothing => Ok(None),
     }
+}
+
+/// The lanes or elements of the variable of a number of the frame at a depth, if there is one, as a page asks for them.
+fn parts_in_frame<M: FramedMachine>(
+    alloc: Global,
+    machine: &M,
+    form: Form,
+    scope: Scope,
+    depth: usize,
+    number: usize,
+    page: Page,
+) -> Result<Option<Vec<Variable>>, AllocError>
+    ensures { (s : Setting) (d : Debugger) → M.stands machine.now s d
+        → IfOk result (λ told. option_map (λ variables. map variable_view variables.items) told
+        ≡ told_option form page s d depth (place.Parts scope depth number) (slice_get (scope_list s d scope depth) number)) }
+{
+    let place = Place::Parts {
+        scope,
+        depth,
+        number,
+    };
+    let named = variable_of(machine, scope, depth, number);
+    parts_of(alloc, machine, form, depth, place, named, page)
+}
+
+/// The lanes or elements of the variable of the file of a number, if there is one, as the top frame shows it, whose depth this is.
+fn parts_in_file<M: FramedMachine>(
+    alloc: Global,
+    machine: &M,
+    form: Form,
+    top: usize,
+    number: usize,
+    page: Page,
+) -> Result<Option<Vec<Variable>>, AllocError>
+    ensures { (s : Setting) (d : Debugger) → M.stands machine.now s d → top ≡ debugger.depth (now s d)
+        → IfOk result (λ told. option_map (λ variables. map variable_view variables.items) told
+        ≡ told_option form page s d top (place.OfFile number) (slice_get (file_variables s) number)) }
+{
+    let named = file_variable(machine, top, number);
+    parts_of(
+        alloc,
+        machine,
+        form,
+        top,
+        Place::OfFile(number),
+        named,
+        page,
+    )
 }
 
 /// The variables of the frame at a depth that a name finds there.

@@ -67,6 +67,8 @@ pub enum VariableKind {
     Array(usize),
     /// Elements of an array one behind another: no expression shows them.
     Range,
+    /// A lane of the value of an expression, which no expression shows; it may not be active where the frame stands.
+    Lane { waits: bool },
 }
 
 /// A variable, one of its lanes or elements, or a range of elements.
@@ -161,7 +163,7 @@ pub enum Reply {
     /// The value that a variable was given.
     Set(String),
     /// What an expression, or a line of the console, is answered; the stop, where the line moved; and the reference of the lanes or elements
-    /// of a variable that is shown, 0 where there are none.
+    /// of a variable or of the lanes of a value that is shown, 0 where there are none.
     Evaluated {
         text: String,
         reason: Option<StopReason>,

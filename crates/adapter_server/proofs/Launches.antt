@@ -6,7 +6,7 @@ use Rattle.gang_model.specs.Texts.Text.{Bytes}
 use Rattle.adapter_requests.specs.declared.request.Launch.{Launch}
 use Rattle.adapter_messages.specs.Arguments.{IsLaunch, flag_at}
 use Rattle.adapter_server.specs.declared.launching.LaunchMessage.{LaunchMessage}
-use Rattle.adapter_server.specs.Serving.{Setup, path_of, setup_by, setup_of}
+use Rattle.adapter_server.specs.Serving.{Setup, setup_by, setup_of}
 
 abbrev made : Bytes → Bool → Setup
 made program stops = record { program = program; stops_on_entry = stops }

@@ -1,5 +1,9 @@
 mod ConsoleLines
 mod Launches
+mod OpenReferences
+mod OpenedEvents
 mod ReadMessages
+mod SentEvents
 mod ServedRequests
+mod ToldEvents
 mod WorkedRows

@@ -10,7 +10,7 @@ use Rattle.adapter_frames.specs.declared.reading.FrameReader.{FrameReader}
 use Rattle.adapter_frames.specs.declared.reading.FrameFault.{FrameFault}
 use Rattle.adapter_frames.specs.declared.reading.FrameFault.TheVariants.{Head, Unfinished, Read, Memory}
 use Rattle.adapter_frames.specs.Reading as frames
-use Rattle.adapter_frames.specs.Reading.{Fails, Gives}
+use Rattle.adapter_frames.specs.Reading.{Fails}
 use Rattle.adapter_server.specs.declared.connection.Connection.{Connection}
 use Rattle.adapter_server.specs.Serving.{Answers, Come, LetsGo, Reads, ReadsJson, Run, Serves, Setup, messages_of, unread}
 

@@ -1,5 +1,5 @@
 -- Requests that are done, and what follows them.
-use Rattle.std.proofs.Common.{◌≡◌, ◌⊎◌, inl, inr, Bool, true, false, Option, Some, None, Result, Ok, Err, IfOk, IfErr, OnOk, refl, ap, sym, subst, ◌∙◌}
+use Rattle.std.proofs.Common.{◌≡◌, inl, inr, Bool, true, false, Option, Some, None, Result, Ok, Err, IfOk, IfErr, OnOk, refl, ap, sym, subst, ◌∙◌}
 use Rattle.gang_model.specs.Debugger.Debugger.{Debugger, Setting}
 use Rattle.gang_model.specs.Texts.Text.{Bytes}
 use Rattle.debug_session.specs.declared.session.Session.{Session}
@@ -12,7 +12,7 @@ use Rattle.adapter_session.specs.declared.beginning.Beginning.{Beginning}
 use Rattle.adapter_session.specs.declared.terms.Terms.{Terms as GivenTerms}
 use Rattle.adapter_session.specs.Done.{DoesRequest}
 use Rattle.adapter_session.specs.Terms.{terms_of}
-use Rattle.adapter_server.specs.Serving.{Answers, Asks, AsksHere, Begins, BeginsBy, DoesAll, DoesOne, Follows, GoesUnless, IsAsked, MayDo, MayFollow, Run, Setup, run_of}
+use Rattle.adapter_server.specs.Serving.{Answers, Asks, AsksHere, Begins, BeginsBy, DoesOne, Follows, GoesUnless, IsAsked, MayDo, MayFollow, Run, Setup, run_of}
 use Rattle.serde_json.specs.Data.{Data}
 
 -- what holds where nothing failed, of what always holds, and of what follows from it

@@ -1,5 +1,12 @@
--- Rows that the check computes from the definitions: two texts were written, and a third is left out.
-use Rattle.std.proofs.Common.{◌≡◌, refl, true, false, [], ◌∷◌, codes}
+-- Rows that the check computes from the definitions: two texts were written, and a third is left out; stops that are told; the bytes of events;
+-- two texts open, and no third one.
+use Rattle.std.proofs.Common.{◌≡◌, refl, ℕ, true, false, List, [], ◌∷◌, ◌++◌, codes, Some, None}
+use Rattle.std.specs.Fmt.{digits}
+use Rattle.serde_json.proofs.OnLiterals.{serde_json_on_literals}
+use Rattle.adapter_requests.specs.declared.reply.StopReason.TheVariants as reason
+use Rattle.adapter_server.specs.Events.{Says, Stops, Ends, last_stop}
+use Rattle.adapter_server.specs.Opening.{text_at}
+use Rattle.adapter_server.specs.Sending.{events_bytes}
 use Rattle.adapter_server.specs.Writing.{console_line, console_lines}
 
 two_texts : console_lines (record { texts = codes "1" ∷ codes "2" ∷ []; is_cut = false }) ≡ (49 ∷ 10 ∷ []) ∷ (50 ∷ 10 ∷ []) ∷ []
@@ -10,3 +17,34 @@ one_left_out = refl
 
 nothing_written : console_lines (record { texts = []; is_cut = false }) ≡ []
 nothing_written = refl
+
+-- of two stops the last one is kept, and where there is none the one before stays
+the_last_of_two : last_stop reason.Entry (Stops reason.Step 1 [] ∷ Says [] ∷ Stops reason.Pause 1 [] ∷ Ends ∷ []) ≡ reason.Pause
+the_last_of_two = refl
+
+no_stop : last_stop reason.Entry (Says [] ∷ Ends ∷ []) ≡ reason.Entry
+no_stop = refl
+
+-- a line of the console and the end, as messages 5 and 6
+two_messages : events_bytes 5 (Says (codes "x = 1\n") ∷ Ends ∷ [])
+    ≡ codes "Content-Length: 90\r\n\r\n{\"body\":{\"category\":\"console\",\"output\":\"x = 1\\n\"},\"event\":\"output\",\"seq\":5,\"type\":\"event\"}"
+    ++ codes "Content-Length: 55\r\n\r\n{\"body\":{},\"event\":\"terminated\",\"seq\":6,\"type\":\"event\"}"
+unfolding serde_json_on_literals digits
+two_messages = refl
+
+-- ---- `v` of the frames at depths 1 and 2
+
+two_open : List (ℕ × List ℕ)
+two_open = (1, codes "v") ∷ (2, codes "v") ∷ []
+
+the_second : text_at 2000 two_open ≡ Some (2, codes "v")
+unfolding two_open
+the_second = refl
+
+no_third : text_at 3000 two_open ≡ None
+unfolding two_open
+no_third = refl
+
+no_expression : text_at 31 two_open ≡ None
+unfolding two_open
+no_expression = refl

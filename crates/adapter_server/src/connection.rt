@@ -1,12 +1,15 @@
 //! A connection to an editor: the messages that it sends, and what it is told.
-ghost use Rattle.std.specs.Prelude.{◌≡◌, MatchResult, OnOk};
+ghost use Rattle.std.specs.Prelude.{◌≡◌, MatchResult, OnOk, [], codes, false};
+ghost use Rattle.std.specs.Io.KnownBytes.{Appends};
 ghost use Rattle.serde_json.specs.View.{view};
+ghost use Rattle.opened_texts.specs.Texts.{texts_of};
 
 use adapter_frames::{FrameFault, FrameReader, HeadFault, write_frame};
 use adapter_messages::{
     Head, event_message, failure_message, output_body, reply_message, stop_body,
 };
 use adapter_requests::{Reply, StopReason};
+use opened_texts::OpenedTexts;
 use serde_json::{Error as JsonError, Map, Value};
 use std::alloc::{AllocError, Global};
 use std::io::{self, Read, Write};
@@ -45,10 +48,18 @@ pub struct Connection<R, O> {
     pub(crate) restart: u64,
     /// Why the program stood still when the editor was last told so.
     pub(crate) stopped: StopReason,
+    /// The expressions whose values have opened since then.
+    pub(crate) opened: OpenedTexts,
 }
 
 impl<R: Read, O: Write> Connection<R, O> {
+    ghost use Rattle.serde_json.specs.Data.{no_members, object};
+    ghost use Rattle.serde_json.specs.Written.{has_float};
+    ghost use Rattle.adapter_messages.specs.Messages.{event};
+    ghost use Rattle.adapter_messages.specs.Replies.{message_of, output_body, stop_body};
+    ghost use Rattle.adapter_server.specs.Sending.{SendsOne, given, message_bytes, number_behind};
     ghost use Rattle.adapter_server.specs.Serving.{LetsGo, Reads, ReadsJson, messages_of, unread};
+    ghost use Rattle.adapter_server.specs.Telling.{SendsReply, SendsText};
 
     /// A connection by a reader and a writer.
     pub fn new(alloc: Global, reader: R, writer: O) -> Self
@@ -61,6 +72,7 @@ impl<R: Read, O: Write> Connection<R, O> {
             next: 1,
             restart: 0,
             stopped: StopReason::Entry,
+            opened: OpenedTexts::new(),
         }
     }
 
@@ -129,7 +141,8 @@ impl<R: Read, O: Write> Connection<R, O> {
         program: &str,
         reply: &Reply,
     ) -> Result<(), Ended>
-        ensures { messages_of self.new ≡ messages_of self.old }
+        ensures sent { OnOk result (SendsReply O.contents self.old self.new (λ number. message_of number head.entry.number head.entry.command.now program.now reply.now)) }
+        ensures messages { messages_of self.new ≡ messages_of self.old }
     {
         let number = self.number();
         let message = reply_message(self.alloc, number, head, program, reply)?;
@@ -147,38 +160,47 @@ impl<R: Read, O: Write> Connection<R, O> {
 
     /// Tells of an event that has nothing to tell but its name.
     pub(crate) fn tell(&mut self, name: &str) -> Result<(), Ended>
-        ensures { messages_of self.new ≡ messages_of self.old }
+        ensures sent { OnOk result (SendsOne O.contents self.old self.new (λ number. event number name.now (object no_members))) }
+        ensures stopped { self.new.stopped ≡ self.old.stopped }
+        ensures messages { messages_of self.new ≡ messages_of self.old }
     {
         let body = Value::Object(Map::new(self.alloc));
         self.tell_with(name, body)
     }
 
-    /// Tells why the program stands still, and which thread is shown first.
+    /// Tells why the program stands still, and which thread is shown first; no expression is open from then on.
     pub(crate) fn tell_stop(
         &mut self,
         reason: StopReason,
         thread: u64,
         text: &str,
     ) -> Result<(), Ended>
+        ensures sent { OnOk result (SendsOne O.contents self.old self.new (λ number. event number (codes "stopped") (stop_body reason thread text.now))) }
         ensures stopped { OnOk result (self.new.stopped ≡ reason) }
+        ensures opened { OnOk result (texts_of self.new.opened ≡ []) }
         ensures messages { messages_of self.new ≡ messages_of self.old }
     {
         let body = stop_body(self.alloc, reason, thread, text)?;
         self.tell_with("stopped", body)?;
         self.stopped = reason;
+        self.opened.clear();
         Ok(())
     }
 
     /// Puts a text on the editor's console.
     pub(crate) fn tell_console(&mut self, text: &str) -> Result<(), Ended>
-        ensures { messages_of self.new ≡ messages_of self.old }
+        ensures sent { OnOk result (SendsOne O.contents self.old self.new (λ number. event number (codes "output") (output_body text.now))) }
+        ensures stopped { self.new.stopped ≡ self.old.stopped }
+        ensures messages { messages_of self.new ≡ messages_of self.old }
     {
         let body = output_body(self.alloc, text)?;
         self.tell_with("output", body)
     }
 
     fn tell_with(&mut self, name: &str, body: Value) -> Result<(), Ended>
-        ensures { messages_of self.new ≡ messages_of self.old }
+        ensures sent { has_float (view body) ≡ false → OnOk result (SendsOne O.contents self.old self.new (λ number. event number name.now (view body))) }
+        ensures stopped { self.new.stopped ≡ self.old.stopped }
+        ensures messages { messages_of self.new ≡ messages_of self.old }
     {
         let number = self.number();
         let message = event_message(self.alloc, number, name, body)?;
@@ -187,7 +209,9 @@ impl<R: Read, O: Write> Connection<R, O> {
 
     /// The number of a new message.
     fn number(&mut self) -> u64
-        ensures { messages_of self.new ≡ messages_of self.old }
+        ensures number { result ≡ self.old.next }
+        ensures left { self.new ≡ record self.old { next = number_behind self.old.next } }
+        ensures messages { messages_of self.new ≡ messages_of self.old }
     {
         let number = self.next;
         self.next = number.saturating_add(1);
@@ -195,7 +219,11 @@ impl<R: Read, O: Write> Connection<R, O> {
     }
 
     fn send(&mut self, message: &Value) -> Result<(), Ended>
-        ensures { messages_of self.new ≡ messages_of self.old }
+        ensures sent { has_float (view message.now) ≡ false
+            → OnOk result (Appends (given O.contents self.old) (given O.contents self.new) (message_bytes (view message.now))) }
+        ensures framed { OnOk result (SendsText O.contents self.old self.new (view message.now)) }
+        ensures left { self.new ≡ record self.old { writer = self.new.writer } }
+        ensures messages { messages_of self.new ≡ messages_of self.old }
     {
         let text = message.to_string(self.alloc)?;
         match write_frame(self.alloc, &mut self.writer, text.as_bytes()) {

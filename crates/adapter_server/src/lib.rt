@@ -2,8 +2,11 @@
 #![tactic(auto)]
 
 mod connection;
+mod events;
 mod launching;
+mod opening;
 mod serving;
+mod telling;
 mod threads;
 mod writing;
 

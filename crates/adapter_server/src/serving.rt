@@ -1,24 +1,29 @@
 //! The requests for a program that is launched.
-ghost use Rattle.std.specs.Prelude.{◌≡◌, OnOk};
+ghost use Rattle.std.specs.Prelude.{◌≡◌, IfOk, OnOk};
 ghost use Rattle.serde_json.specs.View.{view};
+ghost use Rattle.gang_model.specs.Debugger.Debugger.{Debugger, Setting};
+ghost use Rattle.debug_session.specs.Sessions.{StandsFor};
 ghost use Rattle.adapter_requests.specs.declared.request.Request.TheVariants.{Continue};
+ghost use Rattle.adapter_session.specs.Done.{DoesRequest};
+ghost use Rattle.adapter_session.specs.Terms.{terms_of};
+ghost use Rattle.adapter_server.specs.Events.{events_at_beginning, events_behind, events_on_entry};
+ghost use Rattle.adapter_server.specs.Sending.{Sends};
 ghost use Rattle.adapter_server.specs.Serving.{Answers, Asks, Begins, DoesOne, Follows, HasBegun, MayDo, Serves, ServesAnew, messages_of, run_of, setup_by, setup_of, unread};
+ghost use Rattle.adapter_server.specs.Telling.{Tells, TellsBeginning, TellsOne};
+ghost use Rattle.adapter_server.specs.Threads.{threads_of};
 
 use crate::connection::{Connection, Ended};
+use crate::events::{events_at_beginning, events_behind, events_on_entry};
 use crate::launching::LaunchMessage;
-use crate::threads::{thread_of, told_aside};
-use crate::writing::console_lines;
+use crate::opening::open_answer;
+use crate::threads::told_aside;
 use adapter_messages::{Head, read_head, read_request};
-use adapter_replies::{answer_text, no_value_text, stop_behind};
-use adapter_requests::{Launch, Reply, Request, StopReason};
+use adapter_requests::{Launch, Reply, Request};
 use adapter_session::{
     Answered, Beginning, Terms, answer_request, restore_stops, stop_at_beginning,
 };
-use conditional_stops::{CountedStop, Verdict};
-use debug_answers::Answer;
 use debug_session::Session;
 use frame_expressions::ExpressionMachine;
-use log_points::Written;
 use serde_json::Value;
 use std::alloc::{AllocError, Global};
 use std::io::{Read, Write};
@@ -77,6 +82,7 @@ impl<R: Read, O: Write> Connection<R, O> {
             (run_of session.old terms.old) (run_of session.new terms.new) }
     {
         restore_stops(old, terms, session);
+        self.opened.clear();
         self.reply(self.restarting(), "", &Reply::Done)?;
         let Some(asked) = launch.launch() else {
             return Err(Ended::Memory);
@@ -168,27 +174,33 @@ impl<R: Read, O: Write> Connection<R, O> {
         request: &Request<'_>,
     ) -> Result<Turn, Ended>
         ensures done { Follows M.stands (setup_by launch.now) request.now (run_of session.old terms.old) (run_of session.new terms.new) }
+        ensures told { OnOk result (Tells M.stands O.contents (threads_of launch.now) (setup_by launch.now) request.now self.old self.new
+            (run_of session.old terms.old) (run_of session.new terms.new)) }
         ensures messages { messages_of self.new ≡ messages_of self.old }
     {
         if let Request::Restart = request {
             self.restart = head.number;
             return Ok(Turn::Restarts);
         }
-        let reply = told_aside(self.alloc, launch, session, self.stopped, request)?;
+        let reply = told_aside(
+            self.alloc,
+            launch,
+            session,
+            self.stopped,
+            &self.opened,
+            request,
+        )?;
         if let Some(reply) = reply {
             self.reply(head, launch.program, &reply)?;
             return Ok(Turn::Goes);
         }
         let answered = ask(self.alloc, launch.program, terms, session, request)?;
-        self.reply(head, launch.program, &answered.reply)?;
-        self.tell_of(launch, session, request, &answered)?;
+        let told = open_answer(self.alloc, session, request, &mut self.opened, answered);
+        self.reply(head, launch.program, &told.reply)?;
+        self.tell_of(launch, session, request, &told)?;
         match request {
             Request::ConfigurationDone => {
                 self.begin(launch, terms, session)?;
-                Ok(Turn::Goes)
-            }
-            Request::Terminate => {
-                self.tell("terminated")?;
                 Ok(Turn::Goes)
             }
             Request::Disconnect => Ok(Turn::Disconnects),
@@ -196,7 +208,7 @@ impl<R: Read, O: Write> Connection<R, O> {
         }
     }
 
-    /// Tells of what a request leads to: texts that breakpoints wrote, a condition that has no value, and a stop, or the end.
+    /// Tells what is told behind the reply to a request.
     fn tell_of<M: ExpressionMachine>(
         &mut self,
         launch: &Launch<'_>,
@@ -204,59 +216,12 @@ impl<R: Read, O: Write> Connection<R, O> {
         request: &Request<'_>,
         answered: &Answered,
     ) -> Result<(), Ended>
-        ensures { messages_of self.new ≡ messages_of self.old }
+        ensures told { (s : Setting) (d : Debugger) → StandsFor M.stands session.now s d
+            → OnOk result (Sends O.contents self.old self.new (events_behind (threads_of launch.now) s d request.now self.old.stopped answered.now)) }
+        ensures messages { messages_of self.new ≡ messages_of self.old }
     {
-        self.tell_written(&answered.written)?;
-        self.tell_verdict(&answered.verdict)?;
-        if let Reply::Ended = &answered.reply {
-            return self.tell("terminated");
-        }
-        match stop_behind(request, &answered.reply, self.stopped) {
-            Some((reason, text)) => {
-                let thread = thread_of(launch, session, reason);
-                self.tell_stop(reason, thread, text)
-            }
-            None => Ok(()),
-        }
-    }
-
-    /// Puts the texts that breakpoints wrote on the console, each on a line, and tells where some are left out.
-    fn tell_written(&mut self, written: &Written) -> Result<(), Ended>
-        ensures { messages_of self.new ≡ messages_of self.old }
-    {
-        let lines = console_lines(self.alloc, written)?;
-        self.tell_lines(lines.as_slice())
-    }
-
-    /// Puts lines on the console, one event for each.
-    fn tell_lines(&mut self, lines: &[String]) -> Result<(), Ended>
-        ensures { messages_of self.new ≡ messages_of self.old }
-    {
-        for line in lines {
-            self.tell_console(line.as_str())?;
-        }
-        Ok(())
-    }
-
-    /// Puts the texts on the console that breakpoints wrote where the run begins.
-    fn tell_begun(&mut self, written: Written) -> Result<(), Ended>
-        ensures { messages_of self.new ≡ messages_of self.old }
-    {
-        self.tell_written(&written)
-    }
-
-    /// Tells on the console why a condition has no value, where it has none.
-    fn tell_verdict(&mut self, verdict: &Option<Verdict>) -> Result<(), Ended>
-        ensures { messages_of self.new ≡ messages_of self.old }
-    {
-        match verdict {
-            Some(Verdict::NoValue(why)) => {
-                let why = no_value_text(self.alloc, *why)?;
-                let text = format!(in self.alloc; "the condition has no value: {why}\n")?;
-                self.tell_console(text.as_str())
-            }
-            Some(Verdict::Holds(_) | Verdict::Fails) | None => Ok(()),
-        }
+        let events = events_behind(self.alloc, launch, session, self.stopped, request, answered)?;
+        self.tell_events(events.as_slice())
     }
 
     /// Begins the run: the program stops before its first step, where it is to or a breakpoint counts there, or runs to where it
@@ -269,15 +234,17 @@ impl<R: Read, O: Write> Connection<R, O> {
     ) -> Result<(), Ended>
         ensures done { Begins M.stands (setup_by launch.now) (run_of session.old terms.old) (run_of session.new terms.new) }
         ensures begun { OnOk result (HasBegun M.stands (setup_by launch.now) (run_of session.old terms.old) (run_of session.new terms.new)) }
+        ensures told { OnOk result (TellsBeginning M.stands O.contents (threads_of launch.now) launch.now.program.now launch.now.stops_on_entry self.old self.new
+            (run_of session.old terms.old) (run_of session.new terms.new)) }
         ensures messages { messages_of self.new ≡ messages_of self.old }
     {
         if launch.stops_on_entry {
-            return self.tell_beginning(launch, session, &Answer::Here, StopReason::Entry);
+            return self.tell_entry(launch, session);
         }
-        let Beginning { first, written } = stop_at_beginning(self.alloc, terms, session);
-        self.tell_begun(written)?;
-        match first {
-            Some(counted) => self.tell_counted(launch, session, &counted),
+        let beginning = stop_at_beginning(self.alloc, terms, session);
+        self.tell_beginning(launch, session, &beginning)?;
+        match beginning.first {
+            Some(_) => Ok(()),
             None => self.run_on(launch, terms, session),
         }
     }
@@ -291,6 +258,8 @@ impl<R: Read, O: Write> Connection<R, O> {
     ) -> Result<(), Ended>
         ensures done { MayDo M.stands launch.now.program.now Continue (run_of session.old terms.old) (run_of session.new terms.new) }
         ensures gone { OnOk result (DoesOne M.stands launch.now.program.now Continue (run_of session.old terms.old) (run_of session.new terms.new)) }
+        ensures told { OnOk result (TellsOne M.stands O.contents (threads_of launch.now) launch.now.program.now Continue self.old self.new
+            (run_of session.old terms.old) (run_of session.new terms.new)) }
         ensures messages { messages_of self.new ≡ messages_of self.old }
     {
         let answered = ask(
@@ -303,34 +272,33 @@ impl<R: Read, O: Write> Connection<R, O> {
         self.tell_of(launch, session, &Request::Continue, &answered)
     }
 
-    /// Tells that a breakpoint counts where the run begins.
-    fn tell_counted<M: ExpressionMachine>(
+    /// Tells that the program stands before its first step.
+    fn tell_entry<M: ExpressionMachine>(
         &mut self,
         launch: &Launch<'_>,
         session: &Session<M>,
-        counted: &CountedStop,
     ) -> Result<(), Ended>
-        ensures { messages_of self.new ≡ messages_of self.old }
+        ensures told { (s : Setting) (d : Debugger) → StandsFor M.stands session.now s d
+            → OnOk result (Sends O.contents self.old self.new (events_on_entry (threads_of launch.now) s d)) }
+        ensures messages { messages_of self.new ≡ messages_of self.old }
     {
-        self.tell_verdict(&counted.verdict)?;
-        let number = counted.reason.number();
-        let answer = Answer::AtBreakpoint(number);
-        self.tell_beginning(launch, session, &answer, StopReason::Breakpoint(number))
+        let events = events_on_entry(self.alloc, launch, session)?;
+        self.tell_events(events.as_slice())
     }
 
-    /// Tells that the program stands before its first step, and why.
+    /// Tells what the breakpoints came to where the run begins.
     fn tell_beginning<M: ExpressionMachine>(
         &mut self,
         launch: &Launch<'_>,
         session: &Session<M>,
-        answer: &Answer<'_>,
-        reason: StopReason,
+        beginning: &Beginning,
     ) -> Result<(), Ended>
-        ensures { messages_of self.new ≡ messages_of self.old }
+        ensures told { (s : Setting) (d : Debugger) → StandsFor M.stands session.now s d
+            → OnOk result (Sends O.contents self.old self.new (events_at_beginning (threads_of launch.now) s d beginning.now)) }
+        ensures messages { messages_of self.new ≡ messages_of self.old }
     {
-        let text = answer_text(self.alloc, answer, session.machine(), session.stops())?;
-        let thread = thread_of(launch, session, reason);
-        self.tell_stop(reason, thread, text.as_str())
+        let events = events_at_beginning(self.alloc, launch, session, beginning)?;
+        self.tell_events(events.as_slice())
     }
 }
 
@@ -342,7 +310,9 @@ fn ask<M: ExpressionMachine>(
     session: &mut Session<M>,
     request: &Request<'_>,
 ) -> Result<Answered, AllocError>
-    ensures { Asks M.stands program.now request.now (run_of session.old terms.old) (run_of session.new terms.new) result }
+    ensures asked { Asks M.stands program.now request.now (run_of session.old terms.old) (run_of session.new terms.new) result }
+    ensures done { (s : Setting) (d : Debugger) → StandsFor M.stands session.old s d
+        → IfOk result (λ answered. DoesRequest M.stands s program.now request.now d (terms_of terms.old) answered session.new (terms_of terms.new)) }
 {
     answer_request(alloc, program, terms, session, request)
 }

@@ -8,7 +8,6 @@ use Rattle.gang_model.specs.Texts.Text.{Bytes}
 use Rattle.debug_answers.specs.Meanings.{Means}
 use Rattle.debug_session.specs.declared.session.Session.{Session}
 use Rattle.debug_session.specs.Sessions.{StandsFor}
-use Rattle.conditional_stops.specs.declared.going.Direction.{Direction}
 use Rattle.conditional_stops.specs.declared.going.MoveEnd.{MoveEnd}
 use Rattle.conditional_stops.specs.declared.going.MoveEnd.TheVariants as end
 use Rattle.conditional_stops.specs.declared.judging.Verdict.{Verdict}

@@ -1,6 +1,7 @@
 mod Appending
 pub mod Counted
 mod DoneLines
+mod FunctionLists
 mod GoingTo
 mod LogLists
 mod MadeAnew

@@ -1,46 +1,149 @@
 -- Breakpoints and watches that are made anew, one after another.
-use Rattle.std.proofs.Common.{◌≡◌, refl, ap, sym, subst, ◌∙◌, ℕ, zero, suc, ◌+◌, ◌<◌, ◌≤◌, List, [], ◌∷◌, ◌++◌, length, take, get_or, add-one, arith}
-use Rattle.std.proofs.lemmas.List.{take_all}
-use Rattle.gang_model.specs.Debugger.Debugger.{Debugger, Setting, Stop}
+use Rattle.std.proofs.Common.{◌≡◌, refl, ap, sym, subst, ◌∙◌, ℕ, zero, suc, ◌+◌, ◌<◌, ◌≤◌, Bool, List, [], ◌∷◌, ◌++◌, length, drop, get_or, add-one, Option, Some, None, inl, arith}
+use Rattle.std.specs.Prelude.{option_map}
+use Rattle.std.proofs.lemmas.List.{drop_all}
+use Rattle.gang_model.specs.Debugger.Debugger as model
+use Rattle.gang_model.specs.Debugger.Debugger.{Command, Debugger, DoBreak, Line, MayRunOut, Reply, Setting, Stop, Watch, do_command}
+use Rattle.gang_model.specs.Types.Tree.{Program}
+use Rattle.gang_model.specs.Texts.Text.{Bytes}
+use Rattle.debug_answers.specs.declared.answer.Answer.{Answer}
+use Rattle.debug_answers.specs.declared.answer.Answer.TheVariants as answer
 use Rattle.debug_answers.specs.declared.stops.NumberedStop.{NumberedStop}
-use Rattle.debug_answers.specs.Meanings.{AreStops, IsStop}
+use Rattle.debug_answers.specs.Meanings.{AreStops, IsStop, Means}
 use Rattle.debug_session.specs.declared.session.Session.{Session}
-use Rattle.command_lists.specs.Lists.{HasDone}
-use Rattle.command_lists.proofs.DoneLists.{done_then}
-use Rattle.adapter_session.specs.Restored.{made_anew, stop_commands}
+use Rattle.debug_session.specs.Sessions.{RepliesOn, Sets, StandsFor}
+use Rattle.command_lists.specs.Lists.{HasDone, Leads}
+use Rattle.function_lines.specs.Lines.{function_line}
+use Rattle.adapter_session.specs.Requested.{command_list}
+use Rattle.adapter_session.specs.Restored.{command_in, given_made, is_made, made_in, reply_to, restored, stop_commands, with_made}
+use Rattle.adapter_session.specs.Terms.{FunctionStop, name_of}
+use Rattle.adapter_session.proofs.GoingTo.{one_reply}
 
--- the stop at an index: what it means, and the commands up to and with its own
+-- ---- one command
+
+-- a command that may be there wants for no memory, and sets nothing
+abbrev IsPlain : Debugger → Option Command → Type 0
+IsPlain d None = Unit {0}
+IsPlain d (Some command) = (MayRunOut command d → ⊥) × (Sets command → ⊥)
+
+plain_break : (line : Option ℕ) (d : Debugger) → IsPlain d (option_map DoBreak line)
+plain_break None d = tt
+plain_break (Some l) d = (λ may. may, λ sets. sets)
+
+plain : (p : Program) (name : Option Bytes) (stop : Stop) (d : Debugger) → IsPlain d (made_in p name stop)
+plain p None (Line line) d = (λ may. may, λ sets. sets)
+plain p None (Watch target v) d = (λ may. may, λ sets. sets)
+plain p (Some name) stop d = plain_break (function_line p name) d
+
+-- so there is one reply to it
+pub reply_is : (may_want : Type 0) (s : Setting) (functions : List FunctionStop) (entry : ℕ × Stop) (d : Debugger) (command : Command) (r : Reply) → Some command ≡ command_in s.program functions entry → RepliesOn may_want s command d r
+    → r ≡ reply_to s (command_in s.program functions entry) d
+reply_is may_want s functions entry d command r is replies =
+    let sure = subst (IsPlain d) (sym is) (plain s.program (name_of entry.0 functions) entry.1 d) in
+    one_reply may_want s command d r sure.0 sure.1 replies ∙ ap (λ o. reply_to s o d) is
+
+-- whether it made a stop, by what its answer means
+pub made_is : (s : Setting) (d : Debugger) (given : Answer) (meant : model.Answer) → Means s d given meant → given_made given ≡ is_made meant
+made_is s d answer.Here meant is = sym (ap is_made is)
+made_is s d (answer.AtBreakpoint n) meant is = sym (ap is_made is)
+made_is s d (answer.AtWatch n) meant is = sym (ap is_made is)
+made_is s d (answer.AtFault fault) meant is = sym (ap is_made is)
+made_is s d answer.HistoryEnd meant is = sym (ap is_made is)
+made_is s d answer.StepLimit meant is = sym (ap is_made is)
+made_is s d answer.UndoneStep meant is = sym (ap is_made is)
+made_is s d answer.UndonePoke meant is = sym (ap is_made is)
+made_is s d (answer.Shows target shown) meant (v, is, inside, found) = sym (ap is_made is)
+made_is s d (answer.BreaksAt n line) meant is = sym (ap is_made is)
+made_is s d (answer.Watches n target) meant is = sym (ap is_made is)
+made_is s d (answer.Deleted n) meant is = sym (ap is_made is)
+made_is s d answer.ListsStops meant is = sym (ap is_made is)
+made_is s d answer.ListsLocals meant is = sym (ap is_made is)
+made_is s d answer.ListsFrames meant is = sym (ap is_made is)
+made_is s d (answer.KeepsHistory n) meant is = sym (ap is_made is)
+made_is s d answer.Silent meant is = sym (ap is_made is)
+made_is s d (answer.Refused r) meant is = sym (ap is_made is)
+
+-- ---- one stop after another
+
+-- the stop at an index, and those behind it
 record StopAt (s : Setting) (given : List NumberedStop) (meant : List (ℕ × Stop)) (i : ℕ) (default : NumberedStop) : Type 0 where
-  pub stop : Stop
-  pub is : IsStop s (get_or given i default).stop stop
-  pub more : take (suc i) (stop_commands meant) ≡ take i (stop_commands meant) ++ made_anew stop ∷ []
+  pub entry : ℕ × Stop
+  pub number : (get_or given i default).number ≡ entry.0
+  pub is : IsStop s (get_or given i default).stop entry.1
+  pub left : drop i meant ≡ entry ∷ drop (suc i) meant
 
 stop_at : (s : Setting) (given : List NumberedStop) (meant : List (ℕ × Stop)) (i : ℕ) (default : NumberedStop) → AreStops s given meant → i < length given → StopAt s given meant i default
 stop_at s [] meant i default are within = absurd (omega arith)
 stop_at s (x ∷ xs) [] i default are within = absurd are
-stop_at s (x ∷ xs) (m ∷ ms) zero default (number, is, others) within = record { stop = m.1; is = is; more = refl }
+stop_at s (x ∷ xs) (m ∷ ms) zero default (number, is, others) within = record { entry = m; number = number; is = is; left = refl }
 stop_at s (x ∷ xs) (m ∷ ms) (suc i) default (number, is, others) within =
-    let rest = stop_at s xs ms i default others (omega arith) in
-    record { stop = rest.stop; is = rest.is; more = ap (λ commands. made_anew m.1 ∷ commands) rest.more }
+    let at = stop_at s xs ms i default others (omega arith) in
+    record { entry = at.entry; number = at.number; is = at.is; left = at.left }
 
--- as many commands as stops
-as_many : (s : Setting) (given : List NumberedStop) (meant : List (ℕ × Stop)) → AreStops s given meant → length (stop_commands meant) ≡ length given
+-- as many stops as are given
+as_many : (s : Setting) (given : List NumberedStop) (meant : List (ℕ × Stop)) → AreStops s given meant → length meant ≡ length given
 as_many s [] [] are = refl
 as_many s [] (m ∷ ms) are = absurd are
 as_many s (x ∷ xs) [] are = absurd are
 as_many s (x ∷ xs) (m ∷ ms) (number, is, others) = ap suc (as_many s xs ms others)
 
--- all commands, once each stop was made
-pub all_taken : (s : Setting) (given : List NumberedStop) (meant : List (ℕ × Stop)) (i : ℕ) → AreStops s given meant → length given ≤ i → take i (stop_commands meant) ≡ stop_commands meant
-all_taken s given meant i are e = let many = as_many s given meant are in take_all i (stop_commands meant) (omega (arith, many))
+-- none is left, once each stop was made
+none_left : (s : Setting) (given : List NumberedStop) (meant : List (ℕ × Stop)) (i : ℕ) → AreStops s given meant → length given ≤ i → drop i meant ≡ []
+none_left s given meant i are past = let many = as_many s given meant are in drop_all i meant (omega (arith, many, past))
 
--- one stop more was made
-module _ {M : Type 0} (stands : M → Setting → Debugger → Type 0) (s : Setting) where
-  pub makes_more : (given : List NumberedStop) (meant : List (ℕ × Stop)) (i : ℕ) (default : NumberedStop) (e : Debugger) (old new : Session M) → AreStops s given meant → i < length given
-      → (before : HasDone stands s (take i (stop_commands meant)) e old) → ((stop : Stop) → IsStop s (get_or given i default).stop stop → HasDone stands s (made_anew stop ∷ []) before.after new)
-      → HasDone stands s (take (i + 1) (stop_commands meant)) e new
-  makes_more given meant i default e old new are within before makes =
-      let at = stop_at s given meant i default are within in
-      let commands = stop_commands meant in
-      subst (λ done. HasDone stands s done e new) (sym (ap (λ n. take n commands) (add-one i) ∙ at.more))
-      (done_then stands s (take i commands) (made_anew at.stop ∷ []) e old new before (makes at.stop at.is))
+-- where a command that may be there leads, and others from there
+leads_behind : (s : Setting) (command : Option Command) (commands : List Command) (d e : Debugger) → Leads s commands (reply_to s command d).next e → Leads s (command_list command ++ commands) d e
+leads_behind s None commands d e leads = leads
+leads_behind s (Some command) commands d e leads = (do_command s command d, inl (inl refl), leads)
+
+module _ {M : Type 0} (stands : M → Setting → Debugger → Type 0) (s : Setting) (functions : List FunctionStop) where
+  -- some of the stops were made, and these are left: where the session stands, where it leads, and which of them were made
+  pub record Restoring (stops : List (ℕ × Stop)) (d : Debugger) (left : List (ℕ × Stop)) (made : List ℕ) (session : Session M) : Type 0 where
+    pub at : Debugger
+    pub there : StandsFor stands session s at
+    pub leads : (e : Debugger) → Leads s (stop_commands s.program functions left) at e → Leads s (stop_commands s.program functions stops) d e
+    pub made_are : restored s functions left at made ≡ restored s functions stops d []
+
+  pub restoring : (stops : List (ℕ × Stop)) (d : Debugger) (session : Session M) → StandsFor stands session s d → Restoring stops d stops [] session
+  restoring stops d session there = record { at = d; there = there; leads = λ e leads. leads; made_are = refl }
+
+  abbrev pub reply_at : Debugger → ℕ × Stop → Reply
+  reply_at at entry = reply_to s (command_in s.program functions entry) at
+
+  makes_one : (stops : List (ℕ × Stop)) (d : Debugger) (left others : List (ℕ × Stop)) (entry : ℕ × Stop) (made all : List ℕ) (old new : Session M) → left ≡ entry ∷ others → (before : Restoring stops d left made old)
+      → StandsFor stands new s (reply_at before.at entry).next → all ≡ with_made (is_made (reply_at before.at entry).answer) entry.0 made → Restoring stops d others all new
+  makes_one stops d left others entry made all old new is before there notes = record {
+    at = (reply_at before.at entry).next;
+    there = there;
+    leads = λ e leads.
+        before.leads e (subst (λ list. Leads s (stop_commands s.program functions list) before.at e) (sym is) (leads_behind s (command_in s.program functions entry) (stop_commands s.program functions others) before.at e leads));
+    made_are =
+        ap (restored s functions others (reply_at before.at entry).next) notes
+        ∙ sym (ap (λ list. restored s functions list before.at made) is)
+        ∙ before.made_are;
+  }
+
+  -- one stop more was made, or could not be
+  pub makes_more : (r : Setting) (given : List NumberedStop) (stops : List (ℕ × Stop)) (i : ℕ) (default : NumberedStop) (d : Debugger) (made all : List ℕ) (is_one : Bool) (old new : Session M) → AreStops r given stops → i < length given
+      → (before : Restoring stops d (drop i stops) made old)
+      → ((entry : ℕ × Stop) → (get_or given i default).number ≡ entry.0 → IsStop r (get_or given i default).stop entry.1 → StandsFor stands new s (reply_at before.at entry).next)
+      → ((entry : ℕ × Stop) → (get_or given i default).number ≡ entry.0 → IsStop r (get_or given i default).stop entry.1 → is_one ≡ is_made (reply_at before.at entry).answer)
+      → all ≡ with_made is_one (get_or given i default).number made → Restoring stops d (drop (i + 1) stops) all new
+  makes_more r given stops i default d made all is_one old new are within before there whether notes =
+      let at = stop_at r given stops i default are within in
+      subst (λ n. Restoring stops d (drop n stops) all new) (sym (add-one i))
+      (makes_one stops d (drop i stops) (drop (suc i) stops) at.entry made all old new at.left before (there at.entry at.number at.is)
+      (notes ∙ ap (λ n. with_made is_one n made) at.number ∙ ap (λ b. with_made b at.entry.0 made) (whether at.entry at.number at.is)))
+
+  -- all were
+  pub makes_all : (r : Setting) (given : List NumberedStop) (stops : List (ℕ × Stop)) (i : ℕ) (d : Debugger) (made : List ℕ) (session : Session M) → AreStops r given stops → length given ≤ i → Restoring stops d (drop i stops) made session
+      → HasDone stands s (stop_commands s.program functions stops) d session
+  makes_all r given stops i d made session are past before =
+      let end = subst (λ left. Restoring stops d left made session) (none_left r given stops i are past) before in
+      record { after = end.at; leads = end.leads end.at refl; there = end.there }
+
+  pub made_all : (r : Setting) (given : List NumberedStop) (stops : List (ℕ × Stop)) (i : ℕ) (d : Debugger) (made : List ℕ) (session : Session M) → AreStops r given stops → length given ≤ i → Restoring stops d (drop i stops) made session
+      → made ≡ restored s functions stops d []
+  made_all r given stops i d made session are past before =
+      let end = subst (λ left. Restoring stops d left made session) (none_left r given stops i are past) before in
+      end.made_are

@@ -1,5 +1,5 @@
 -- Where no breakpoint has a message, a program goes on as without them, and nothing is written.
-use Rattle.std.proofs.Common.{◌≡◌, refl, ap, subst, ◌∙◌, ℕ, List, []}
+use Rattle.std.proofs.Common.{◌≡◌, refl, ap, subst, ◌∙◌, List, []}
 use Rattle.gang_model.specs.Debugger.Debugger.{Debugger, Setting}
 use Rattle.gang_model.specs.Texts.Text.{Bytes}
 use Rattle.debug_session.specs.declared.session.Session.{Session}
@@ -12,10 +12,10 @@ use Rattle.log_points.proofs.Silent.{silent_on}
 use Rattle.adapter_requests.specs.declared.request.Request.{Request}
 use Rattle.adapter_session.specs.declared.answering.Answered.{Answered}
 use Rattle.adapter_session.specs.Done.{GoesToStop, most}
-use Rattle.adapter_session.specs.Terms.{Terms, anew}
+use Rattle.adapter_session.specs.Terms.{FunctionStop, Terms, anew}
 
 -- what was asked for is left as it is where none has a message
-pub anew_plainly : (table : Table) (functions : List ℕ) → (anew table [] functions).left ≡ table
+pub anew_plainly : (table : Table) (functions : List FunctionStop) → (anew table [] functions).left ≡ table
 anew_plainly table functions = refl
 
 pub nothing_logged : {M : Type 0} (stands : M → Setting → Debugger → Type 0) (s : Setting) (program : Bytes) (request : Request) (way : Direction) (d : Debugger) (terms : Terms) (answered : Answered) (session : Session M) (new : Terms)

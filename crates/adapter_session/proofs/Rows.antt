@@ -1,7 +1,7 @@
 -- Worked rows of what a restart does, of what going to a line does, of the stop button, and of messages.
-use Rattle.std.proofs.Common.{◌≡◌, refl, None, Some, ℕ, List, [], ◌∷◌, codes}
-use Rattle.std.specs.Prelude.{not}
-use Rattle.gang_model.specs.Types.Tree.{Variable}
+use Rattle.std.proofs.Common.{◌≡◌, refl, true, false, None, Some, ℕ, List, [], ◌∷◌, codes}
+use Rattle.std.specs.Prelude.{not, option_map}
+use Rattle.gang_model.specs.Types.Tree.{Program, Variable}
 use Rattle.gang_model.specs.Debugger.Debugger.{Debugger, DoBreak, DoContinue, DoDelete, DoReverseContinue, DoWatch, Line, Setting, Stop, Target, Watch}
 use Rattle.debug_answers.specs.declared.answer.Answer.TheVariants as answer
 use Rattle.gang_model.specs.Texts.Text.{Bytes}
@@ -13,11 +13,23 @@ use Rattle.adapter_session.specs.declared.lines.Kind.TheVariants.{Functions, Lin
 use Rattle.adapter_session.specs.Changes.{staying}
 use Rattle.adapter_session.specs.Going.{going, is_at, reached}
 use Rattle.adapter_session.specs.Requested.{break_at, commands_of, is_elsewhere, numbers_of, set_lines, test_of}
-use Rattle.adapter_session.specs.Restored.{stop_commands}
-use Rattle.adapter_session.specs.Terms.{anew, carried_functions, carried_logs, changed, first_logged}
+use Rattle.function_lines.specs.Lines.{function_line}
+use Rattle.adapter_session.specs.Restored.{made_in, stop_commands, with_made}
+use Rattle.adapter_session.specs.Terms.{FunctionStop, anew, carried_functions, carried_logs, changed, first_logged, name_of}
 
-breakpoint_and_watch : (target : Target) (v : Variable) → stop_commands ((2, Line 5) ∷ (4, Watch target v) ∷ []) ≡ DoBreak 5 ∷ DoWatch target ∷ []
-breakpoint_and_watch target v = refl
+breakpoint_and_watch : (p : Program) (target : Target) (v : Variable) → stop_commands p [] ((2, Line 5) ∷ (4, Watch target v) ∷ []) ≡ DoBreak 5 ∷ DoWatch target ∷ []
+breakpoint_and_watch p target v = refl
+
+-- breakpoint 3 is that of `go`: it stands where the new program has this function, and nowhere where it has none
+abbrev go : List FunctionStop
+go = record { number = 3; name = codes "go" } ∷ []
+
+where_the_function_is : (p : Program) → made_in p (name_of 3 go) (Line 9) ≡ option_map DoBreak (function_line p (codes "go"))
+where_the_function_is p = refl
+
+-- those that could not be made have no number in place of theirs
+the_others_then : with_made true 4 (with_made false 3 (with_made true 2 [])) ≡ 2 ∷ 4 ∷ []
+the_others_then = refl
 
 -- on to the next time, and back to the last one, of a line with the breakpoint 3; none is made where the table is full
 the_next_time : going Forwards (Some 3) ≡ DoContinue ∷ DoDelete (Some 3) ∷ []
@@ -81,10 +93,14 @@ no_function : break_at None ≡ []
 no_function = refl
 
 -- breakpoint 3 keeps its condition, and 5, which came, has the one that is asked for it
-asked_for_it : changed Lines (3 ∷ 5 ∷ []) (5 ∷ []) (record { condition = Some (codes "i > 2"); passes = 0; log = None } ∷ []) (anew (record nothing { conditions = (2, codes "x") ∷ (3, codes "y") ∷ [] }) [] (3 ∷ []))
-    ≡ anew (record nothing { conditions = (3, codes "y") ∷ (5, codes "i > 2") ∷ [] }) [] (3 ∷ [])
+asked_for_it : changed (3 ∷ 5 ∷ []) (5 ∷ []) (record { condition = Some (codes "i > 2"); passes = 0; log = None; name = None } ∷ []) (anew (record nothing { conditions = (2, codes "x") ∷ (3, codes "y") ∷ [] }) [] go)
+    ≡ anew (record nothing { conditions = (3, codes "y") ∷ (5, codes "i > 2") ∷ [] }) [] go
 asked_for_it = refl
 
+-- breakpoint 5 is that of `stop`, which came in place of that of `go`
+another_function : changed (2 ∷ 5 ∷ []) (5 ∷ []) (record { condition = None; passes = 0; log = None; name = Some (codes "stop") } ∷ []) (anew nothing [] go) ≡ anew nothing [] (record { number = 5; name = codes "stop" } ∷ [])
+another_function = refl
+
 -- behind a restart the second one is the function's
-the_functions_then : carried_functions (3 ∷ []) (2 ∷ 3 ∷ 4 ∷ []) (1 ∷ 2 ∷ 3 ∷ []) [] ≡ 2 ∷ []
+the_functions_then : carried_functions go (2 ∷ 3 ∷ 4 ∷ []) (1 ∷ 2 ∷ 3 ∷ []) [] ≡ record { number = 2; name = codes "go" } ∷ []
 the_functions_then = refl

@@ -1,6 +1,5 @@
--- Conditions and counts that breakpoints and watches get, one after another, and the numbers of those of functions.
+-- Conditions and counts that breakpoints and watches get, one after another.
 use Rattle.std.proofs.Common.{◌≡◌, refl, ap, sym, ◌∙◌, ℕ, ◌+◌, ◌<◌, ◌≤◌, List, [], ◌∷◌, length, drop, get_or, map}
-use Rattle.std.specs.Prelude.{if◌then◌else◌}
 use Rattle.std.proofs.lemmas.List.{at_drop_more, at_drop_all, drop-map, drop_all}
 use Rattle.gang_model.specs.Debugger.Debugger as model
 use Rattle.gang_model.specs.Debugger.Debugger.{Setting}
@@ -10,9 +9,8 @@ use Rattle.conditional_stops.specs.Tables.{Table, condition_of, passes_of}
 use Rattle.adapter_session.specs.declared.changes.Asked.{Asked}
 use Rattle.adapter_session.specs.Changes.{asked_view}
 use Rattle.adapter_session.specs.Given.{all_numbers}
-use Rattle.adapter_session.specs.Requested.{is_in}
 use Rattle.adapter_session.specs.Restored.{numbers}
-use Rattle.adapter_session.specs.Terms.{carried, carried_functions, first_given, numbered, with_first, with_number, with_numbers}
+use Rattle.adapter_session.specs.Terms.{carried, first_given, numbered}
 
 -- the numbers of the stops behind so many, and of none
 pub those_behind : (many : ℕ) (stops : List NumberedStop) → all_numbers (drop many stops) ≡ drop many (all_numbers stops)
@@ -50,33 +48,6 @@ carries_more asked old i x before after table new total within given behind so =
 
 pub carries_end : (asked : Table) (old : List NumberedStop) (i : ℕ) (left : List ℕ) (table total : Table) → length old ≤ i → carried asked (all_numbers (drop i old)) left table ≡ total → table ≡ total
 carries_end asked old i left table total past so = sym (ap (λ olds. carried asked olds left table) (at_drop_all all_numbers old i past)) ∙ so
-
--- ---- the numbers of functions' breakpoints
-
--- one more is noted
-pub notes_more : (stops : List NumberedStop) (i : ℕ) (x : NumberedStop) (old new total : List ℕ) → i < length stops → new ≡ with_number (get_or stops i x).number old
-    → with_numbers (all_numbers (drop i stops)) old ≡ total → with_numbers (all_numbers (drop (i + 1) stops)) new ≡ total
-notes_more stops i x old new total within noted so =
-    ap (with_numbers (all_numbers (drop (i + 1) stops))) noted
-    ∙ sym (ap (λ list. with_numbers list old) (at_drop_more all_numbers stops i x within))
-    ∙ so
-
-pub notes_end : (stops : List NumberedStop) (i : ℕ) (made total : List ℕ) → length stops ≤ i → with_numbers (all_numbers (drop i stops)) made ≡ total → made ≡ total
-notes_end stops i made total past so = sym (ap (λ list. with_numbers list made) (at_drop_all all_numbers stops i past)) ∙ so
-
--- one more is carried
-pub carries_function : (functions : List ℕ) (old : List NumberedStop) (i : ℕ) (x : NumberedStop) (before after made new total : List ℕ) → i < length old
-    → new ≡ (if is_in functions (get_or old i x).number then with_first before made else made) → after ≡ drop 1 before
-    → carried_functions functions (all_numbers (drop i old)) before made ≡ total → carried_functions functions (all_numbers (drop (i + 1) old)) after new ≡ total
-carries_function functions old i x before after made new total within noted behind so =
-    let others = all_numbers (drop (i + 1) old) in
-    ap (λ left. carried_functions functions others left new) behind
-    ∙ ap (carried_functions functions others (drop 1 before)) noted
-    ∙ sym (ap (λ olds. carried_functions functions olds before made) (at_drop_more all_numbers old i x within))
-    ∙ so
-
-pub functions_end : (functions : List ℕ) (old : List NumberedStop) (i : ℕ) (left made total : List ℕ) → length old ≤ i → carried_functions functions (all_numbers (drop i old)) left made ≡ total → made ≡ total
-functions_end functions old i left made total past so = sym (ap (λ olds. carried_functions functions olds left made) (at_drop_all all_numbers old i past)) ∙ so
 
 -- the numbers are those of the definitions
 pub numbers_same : (s : Setting) (given : List NumberedStop) (meant : List (ℕ × model.Stop)) → AreStops s given meant → all_numbers given ≡ numbers meant

@@ -26,7 +26,7 @@ use Rattle.adapter_session.specs.Answered.{IsTold, MayTell}
 use Rattle.adapter_session.specs.Changes.{change_of}
 use Rattle.adapter_session.specs.Requested.{commands_of, is_console}
 use Rattle.adapter_session.specs.Restored.{numbers}
-use Rattle.adapter_session.specs.Terms.{Terms, changed_by}
+use Rattle.adapter_session.specs.Terms.{Terms, changed_by, function_numbers}
 
 -- the most stops that are passed for one request
 abbrev pub most : ℕ
@@ -55,7 +55,7 @@ way_by terms request = if is_nothing terms.left then None else way_of request
 
 -- the conditions, counts and messages after a request, by the debuggers before and after it
 abbrev pub terms_after : Setting → (program : Bytes) → (before after : Debugger) → Request → Terms → Terms
-terms_after s program d e request terms = changed_by (change_of s program terms.functions d request) (numbers e.stops) terms
+terms_after s program d e request terms = changed_by (change_of s program (function_numbers terms) d request) (numbers e.stops) terms
 
 -- what the condition came to of a stop that counts
 abbrev pub verdict_of : MoveEnd → Option Verdict
@@ -64,8 +64,8 @@ verdict_of ended = None
 
 -- the commands of a request were done, and nothing else
 pub record DoesPlainly {M : Type 0} (stands : M → Setting → Debugger → Type 0) (s : Setting) (program : Bytes) (request : Request) (d : Debugger) (terms : Terms) (answered : Answered) (session : Session M) (new : Terms) : Type 0 where
-  pub done : HasDone stands s (commands_of program terms.functions s d request) d session
-  pub told : IsTold stands s program terms.functions request d answered.reply session
+  pub done : HasDone stands s (commands_of program (function_numbers terms) s d request) d session
+  pub told : IsTold stands s program (function_numbers terms) request d answered.reply session
   pub verdict : answered.verdict ≡ None
   pub silent : written_of answered.written ≡ no_text
   pub terms_are : (e : Debugger) → StandsFor stands session s e → new ≡ terms_after s program d e request terms

@@ -1,6 +1,6 @@
 -- The commands that a request is: each is a line of the debugger.
 use Rattle.std.specs.List.{list_any}
-use Rattle.std.specs.Prelude.{ℕ, Bool, true, false, not, List, [], ◌∷◌, ◌++◌, flat_map, map, Option, Some, None, Result, Ok, Err, codes, decimal, is_some, ◌&&◌, ◌==◌, if◌then◌else◌}
+use Rattle.std.specs.Prelude.{ℕ, Bool, true, false, not, List, [], ◌∷◌, ◌++◌, flat_map, map, Option, Some, None, Result, Ok, Err, codes, decimal, ◌&&◌, ◌==◌, if◌then◌else◌}
 use Rattle.gang_model.specs.Source.Names.{same_text}
 use Rattle.gang_model.specs.Debugger.Debugger.{Command, Debugger, DoInfoLocals, DoPrint, Setting, Stop, Line, Watch, depth, now}
 use Rattle.gang_model.specs.Types.Tree.{Program}
@@ -149,21 +149,29 @@ function_break_lines p functions stops asked = delete_lines Functions functions 
 abbrev pub watch_lines : (functions : List ℕ) → List (ℕ × Stop) → List (Result DataBreakpoint BreakpointFault) → List Bytes
 watch_lines functions stops targets = delete_lines Watches functions stops ++ flat_map (line_for (λ asked. watch_line asked.target.now)) targets
 
+-- the line of a request that moves the program; none of one that does nothing
+abbrev pub move_lines : Request → List Bytes
+move_lines request.Next = only (codes "next")
+move_lines request.StepIn = only (codes "step")
+move_lines request.StepOut = only (codes "finish")
+move_lines request.Continue = only (codes "continue")
+move_lines request.StepBack = only (codes "reverse-step")
+move_lines request.ReverseContinue = only (codes "reverse-continue")
+move_lines other = []
+
+-- the lines of a request about a value, and those of any other that sets no breakpoint or watch
+abbrev pub value_lines : (top : ℕ) → Request → List Bytes
+value_lines top (request.SetVariable reference name value is_hexadecimal) = set_lines (is_set_there top (place_of reference)) name.now value.now
+value_lines top (request.SetExpression expression value frame is_hexadecimal) = set_lines (not (is_elsewhere top frame)) expression.now value.now
+value_lines top (request.Evaluate expression frame context is_hexadecimal) = evaluated (is_console context) (is_elsewhere top frame) expression.now
+value_lines top other = move_lines other
+
 -- the lines that a request is, given a program, the path of its source, the numbers of the breakpoints of functions, its depth, and the breakpoints and watches
 abbrev pub lines_of : Program → (program : Bytes) → (functions : List ℕ) → (top : ℕ) → List (ℕ × Stop) → Request → List Bytes
-lines_of p program functions top stops request.Next = only (codes "next")
-lines_of p program functions top stops request.StepIn = only (codes "step")
-lines_of p program functions top stops request.StepOut = only (codes "finish")
-lines_of p program functions top stops request.Continue = only (codes "continue")
-lines_of p program functions top stops request.StepBack = only (codes "reverse-step")
-lines_of p program functions top stops request.ReverseContinue = only (codes "reverse-continue")
 lines_of p program functions top stops (request.SetBreakpoints source lines) = break_lines (is_program program source) functions stops lines.items
 lines_of p program functions top stops (request.SetFunctionBreakpoints asked) = function_break_lines p functions stops asked.items
 lines_of p program functions top stops (request.SetDataBreakpoints targets) = watch_lines functions stops targets.items
-lines_of p program functions top stops (request.SetVariable reference name value is_hexadecimal) = set_lines (is_set_there top (place_of reference)) name.now value.now
-lines_of p program functions top stops (request.SetExpression expression value frame is_hexadecimal) = set_lines (not (is_elsewhere top frame)) expression.now value.now
-lines_of p program functions top stops (request.Evaluate expression frame context is_hexadecimal) = evaluated (is_console context) (is_elsewhere top frame) expression.now
-lines_of p program functions top stops other = []
+lines_of p program functions top stops other = value_lines top other
 
 -- the command of a line, where it spells one
 abbrev pub command_list : Option Command → List Command

@@ -1,31 +1,40 @@
 -- The conditions and the counts of an editor's breakpoints and watches, the messages of those that write a text in place of stopping, and which breakpoints
--- are functions'.
-use Rattle.std.specs.Prelude.{ℕ, Bool, List, [], ◌∷◌, ◌++◌, drop, length, nat_lt, Option, Some, None, is_none, option_map, if◌then◌else◌}
-use Rattle.std.specs.Borrow.{Bor}
+-- are functions', by the functions' names.
+use Rattle.std.specs.Prelude.{ℕ, ◌==◌, List, [], ◌∷◌, ◌++◌, drop, find, length, map, nat_le, nat_lt, Option, Some, None, is_none, option_map, if◌then◌else◌}
 use Rattle.gang_model.specs.Texts.Text.{Bytes}
 use Rattle.conditional_stops.specs.Tables.{Table, condition_of, condition_refusal, count_refusal, nothing, passes_of, with_condition, with_passes}
 use Rattle.conditional_stops.specs.Views.{table_of}
 use Rattle.log_points.specs.Points.{Log, logs_of, message_of, silenced, with_log}
-use Rattle.adapter_session.specs.declared.lines.Kind.{Kind}
-use Rattle.adapter_session.specs.declared.lines.Kind.TheVariants.{Functions, Lines, Watches}
+use Rattle.adapter_session.specs.declared.functions.FunctionStop.{FunctionStop as GivenFunctionStop}
 use Rattle.adapter_session.specs.declared.terms.Terms.{Terms as GivenTerms}
 use Rattle.adapter_session.specs.Changes.{Asked, Change}
-use Rattle.adapter_session.specs.Requested.{is_in}
+
+-- a breakpoint of a function, by its number, and the name of the function
+pub record FunctionStop : Type 0 where
+  pub number : ℕ
+  pub name : Bytes
+
+abbrev pub function_of : GivenFunctionStop → FunctionStop
+function_of f = record { number = f.number; name = f.name.items }
 
 -- conditions and counts as they were asked for, and as the run has left them; the breakpoints that write a text, with what the run
--- has left of theirs; and the numbers of the breakpoints of functions
+-- has left of theirs; and the breakpoints of functions
 pub record Terms : Type 0 where
   pub asked : Table
   pub left : Table
   pub logs : List Log
   pub log_left : Table
-  pub functions : List ℕ
+  pub functions : List FunctionStop
 
 abbrev pub terms_of : GivenTerms → Terms
-terms_of t = record { asked = table_of t.asked; left = table_of t.left; logs = logs_of t.logs; log_left = table_of t.logs.terms; functions = t.functions.items }
+terms_of t = record { asked = table_of t.asked; left = table_of t.left; logs = logs_of t.logs; log_left = table_of t.logs.terms; functions = map function_of t.functions.items }
+
+-- the numbers of the breakpoints of functions
+abbrev pub function_numbers : Terms → List ℕ
+function_numbers terms = map (λ f. f.number) terms.functions
 
 -- as they are asked for, of which no stop was passed yet: those that write a text stop nowhere
-abbrev pub anew : Table → List Log → (functions : List ℕ) → Terms
+abbrev pub anew : Table → List Log → List FunctionStop → Terms
 anew table logs functions = record { asked = table; left = silenced logs table; logs = logs; log_left = table; functions = functions }
 
 -- a breakpoint has this condition, if it is one and there is room
@@ -52,6 +61,28 @@ abbrev pub first_logged : List ℕ → (message : Option Bytes) → List Log →
 first_logged [] message logs = logs
 first_logged (number ∷ numbers) message logs = messaged number message logs
 
+-- the name that is kept of a function: none of more than 256 bytes, and no function has that which stands for it
+abbrev pub kept_name : Bytes → Bytes
+kept_name name = if nat_le (length name) 256 then name else []
+
+-- a breakpoint is a function's, behind others that are, where there is room: 64 can be there
+abbrev pub with_function : ℕ → (name : Bytes) → List FunctionStop → List FunctionStop
+with_function number name functions = if nat_lt (length functions) 64 then functions ++ record { number = number; name = kept_name name } ∷ [] else functions
+
+-- the same, if it has a name
+abbrev pub named : ℕ → (name : Option Bytes) → List FunctionStop → List FunctionStop
+named number None functions = functions
+named number (Some name) functions = with_function number name functions
+
+-- and of the first of some numbers, if there is one
+abbrev pub first_named : List ℕ → (name : Option Bytes) → List FunctionStop → List FunctionStop
+first_named [] name functions = functions
+first_named (number ∷ numbers) name functions = named number name functions
+
+-- the name of the function whose breakpoint has a number, if one has it
+abbrev pub name_of : ℕ → List FunctionStop → Option Bytes
+name_of number functions = option_map (λ f. f.name) (find (λ f. f.number == number) functions)
+
 -- stops that have these numbers, one after another, each with the condition and the count that are asked for it
 abbrev pub numbered : List Asked → (numbers : List ℕ) → Table → Table
 numbered [] numbers table = table
@@ -61,6 +92,11 @@ numbered (asked ∷ others) numbers table = numbered others (drop 1 numbers) (fi
 abbrev pub logged : List Asked → (numbers : List ℕ) → List Log → List Log
 logged [] numbers logs = logs
 logged (asked ∷ others) numbers logs = logged others (drop 1 numbers) (first_logged numbers asked.log logs)
+
+-- the same, of those of functions
+abbrev pub all_named : List Asked → (numbers : List ℕ) → List FunctionStop → List FunctionStop
+all_named [] numbers functions = functions
+all_named (asked ∷ others) numbers functions = all_named others (drop 1 numbers) (first_named numbers asked.name functions)
 
 -- ---- made anew
 
@@ -74,23 +110,10 @@ abbrev pub carried_logs : (asked : List Log) → (old new : List ℕ) → List L
 carried_logs asked [] new logs = logs
 carried_logs asked (number ∷ old) new logs = carried_logs asked old (drop 1 new) (first_logged new (message_of number asked) logs)
 
--- the numbers of functions' breakpoints, behind others, where there is room: 64 can be there
-abbrev pub with_number : (number : ℕ) → List ℕ → List ℕ
-with_number number numbers = if nat_lt (length numbers) 64 then numbers ++ number ∷ [] else numbers
-
-abbrev pub with_numbers : (numbers old : List ℕ) → List ℕ
-with_numbers [] old = old
-with_numbers (number ∷ numbers) old = with_numbers numbers (with_number number old)
-
--- the first of some numbers, if there is one
-abbrev pub with_first : List ℕ → (old : List ℕ) → List ℕ
-with_first [] old = old
-with_first (number ∷ numbers) old = with_number number old
-
--- a breakpoint that is made in place of a function's is a function's
-abbrev pub carried_functions : (functions : List ℕ) → (old new : List ℕ) → List ℕ → List ℕ
+-- a breakpoint that is made in place of a function's is that function's
+abbrev pub carried_functions : List FunctionStop → (old new : List ℕ) → List FunctionStop → List FunctionStop
 carried_functions functions [] new made = made
-carried_functions functions (number ∷ old) new made = carried_functions functions old (drop 1 new) (if is_in functions number then with_first new made else made)
+carried_functions functions (number ∷ old) new made = carried_functions functions old (drop 1 new) (first_named new (name_of number functions) made)
 
 -- ---- in place of others
 
@@ -108,22 +131,20 @@ given numbers came asked table = numbered asked came (kept numbers table)
 abbrev pub given_logs : (numbers came : List ℕ) → List Asked → List Log → List Log
 given_logs numbers came asked logs = logged asked came (kept_logs numbers logs)
 
--- the numbers of functions' breakpoints, where those of a kind came: of the others those that stand
-abbrev pub functions_after : Kind → (numbers came old : List ℕ) → List ℕ
-functions_after Functions numbers came old = with_numbers came []
-functions_after kind numbers came old = carried_functions old numbers numbers []
+abbrev pub given_functions : (numbers came : List ℕ) → List Asked → List FunctionStop → List FunctionStop
+given_functions numbers came asked functions = all_named asked came (carried_functions functions numbers numbers [])
 
--- where stops of a kind came in place of others: all have these numbers then
-abbrev pub changed : Kind → (numbers came : List ℕ) → List Asked → Terms → Terms
-changed kind numbers came asked terms = record {
+-- where stops came in place of others: all have these numbers then
+abbrev pub changed : (numbers came : List ℕ) → List Asked → Terms → Terms
+changed numbers came asked terms = record {
   asked = given numbers came asked terms.asked;
   left = silenced (given_logs numbers came asked terms.logs) (given numbers came asked terms.left);
   logs = given_logs numbers came asked terms.logs;
   log_left = given numbers came asked terms.log_left;
-  functions = functions_after kind numbers came terms.functions;
+  functions = given_functions numbers came asked terms.functions;
 }
 
 -- those that came stand behind those that stayed
 abbrev pub changed_by : Option Change → (numbers : List ℕ) → Terms → Terms
 changed_by None numbers terms = terms
-changed_by (Some change) numbers terms = changed change.kind numbers (drop change.staying numbers) change.asked terms
+changed_by (Some change) numbers terms = changed numbers (drop change.staying numbers) change.asked terms

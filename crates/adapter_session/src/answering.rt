@@ -10,11 +10,12 @@ ghost use Rattle.adapter_session.specs.Changes.{change_view};
 ghost use Rattle.adapter_session.specs.Given.{all_numbers};
 ghost use Rattle.adapter_session.specs.Done.{DoesPlainly, DoesRequest};
 ghost use Rattle.adapter_session.specs.Requested.{commands_of, lines_of, spelled};
-ghost use Rattle.adapter_session.specs.Terms.{changed_by, terms_of};
+ghost use Rattle.adapter_session.specs.Terms.{changed_by, function_numbers, terms_of};
 
 use crate::changes::{Change, change_of};
 use crate::counting::{go_to_counted, way_by};
 use crate::doing::do_lines;
+use crate::functions::function_numbers;
 use crate::going::{go_to, goto_of};
 use crate::lines::{command_lines, is_program};
 use crate::terms::Terms;
@@ -73,7 +74,8 @@ fn answer_plainly<M: ExpressionMachine>(
         → IfOk result (λ answered. DoesPlainly M.stands s program.now request.now d (terms_of terms.old) answered session.new (terms_of terms.new)) }
     ensures memory { IfErr result (λ _. (session.new ≡ session.old) × (terms.new ≡ terms.old)) }
 {
-    let change = change_of(alloc, program, terms.functions.as_slice(), session, request)?;
+    let functions = function_numbers(&terms.functions);
+    let change = change_of(alloc, program, functions.as_slice(), session, request)?;
     let reply = answer_commands(alloc, program, terms, session, request)?;
     change_terms(terms, session.stops(), change);
     Ok(Answered {
@@ -101,9 +103,9 @@ fn answer_commands<M: ExpressionMachine>(
     request: &Request<'_>,
 ) -> Result<Reply, AllocError>
     ensures done { (s : Setting) (d : Debugger) → StandsFor M.stands session.old s d
-        → IfOk result (λ _. HasDone M.stands s (commands_of program.now (terms_of terms.now).functions s d request.now) d session.new) }
+        → IfOk result (λ _. HasDone M.stands s (commands_of program.now (function_numbers (terms_of terms.now)) s d request.now) d session.new) }
     ensures told { (s : Setting) (d : Debugger) → StandsFor M.stands session.old s d
-        → IfOk result (λ told. IsTold M.stands s program.now (terms_of terms.now).functions request.now d told session.new) }
+        → IfOk result (λ told. IsTold M.stands s program.now (function_numbers (terms_of terms.now)) request.now d told session.new) }
     ensures memory { IfErr result (λ _. session.new ≡ session.old) }
 {
     match goto_of(request) {
@@ -121,9 +123,9 @@ fn answer_lines<M: ExpressionMachine>(
     request: &Request<'_>,
 ) -> Result<Reply, AllocError>
     ensures done { (s : Setting) (d : Debugger) → StandsFor M.stands session.old s d
-        → IfOk result (λ _. HasDone M.stands s (spelled (lines_of s.program program.now (terms_of terms.now).functions (depth (now s d)) d.stops request.now)) d session.new) }
+        → IfOk result (λ _. HasDone M.stands s (spelled (lines_of s.program program.now (function_numbers (terms_of terms.now)) (depth (now s d)) d.stops request.now)) d session.new) }
     ensures told { (s : Setting) (d : Debugger) → StandsFor M.stands session.old s d
-        → IfOk result (λ told. IsToldByLines M.stands s program.now (terms_of terms.now).functions request.now d told session.new) }
+        → IfOk result (λ told. IsToldByLines M.stands s program.now (function_numbers (terms_of terms.now)) request.now d told session.new) }
     ensures memory { IfErr result (λ _. session.new ≡ session.old) }
 {
     let lines = command_lines(alloc, program, terms, session, request)?;

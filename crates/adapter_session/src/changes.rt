@@ -31,12 +31,13 @@ pub(crate) struct Asked<'a> {
     pub(crate) passes: u32,
     /// The message that it writes in place of stopping, if it does.
     pub(crate) log: Option<&'a str>,
+    /// The name of the function that it is of, if it is of one.
+    pub(crate) name: Option<&'a str>,
 }
 
 /// A request that puts stops of a kind in place of those that there are.
 #[derive(Drop)]
 pub(crate) struct Change<'a> {
-    pub(crate) kind: Kind,
     /// How many others stay.
     pub(crate) staying: usize,
     /// What is asked for those that can stand.
@@ -125,7 +126,6 @@ fn made_change<'a>(
         → change_view result ≡ spec.change kind functions.now meant (map asked_view asked.entry.items) }
 {
     Change {
-        kind,
         staying: staying(kind, functions, stops),
         asked,
     }
@@ -170,6 +170,7 @@ fn asked_line<'a, M: RecordedMachine>(
             condition: asked.condition,
             passes: asked.passes,
             log: asked.log,
+            name: None,
         }),
         Ok(_) | Err(_) => None,
     }
@@ -202,6 +203,7 @@ fn asked_function<'a>(
             condition: asked.condition,
             passes: asked.passes,
             log: None,
+            name: Some(asked.name),
         }),
         Ok(_) | Err(_) => None,
     }
@@ -244,13 +246,14 @@ fn asked_watch<'a, M: RecordedMachine>(
 /// What is asked for a watch, where it can be there.
 fn watch_if(is_there: bool, asked: DataBreakpoint<'_>) -> Option<Asked<'_>>
     ensures { spec.listed (option_map asked_view result)
-        ≡ spec.if_stands is_there (record { condition = text_of asked.entry.condition; passes = asked.entry.passes; log = None }) }
+        ≡ spec.if_stands is_there (record { condition = text_of asked.entry.condition; passes = asked.entry.passes; log = None; name = None }) }
 {
     if is_there {
         Some(Asked {
             condition: asked.condition,
             passes: asked.passes,
             log: None,
+            name: None,
         })
     } else {
         None

@@ -6,6 +6,7 @@ mod beginning;
 mod changes;
 mod counting;
 mod doing;
+mod functions;
 mod going;
 mod lines;
 mod logging;

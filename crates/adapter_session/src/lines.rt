@@ -8,9 +8,10 @@ ghost use Rattle.debug_commands.specs.Views.{command_view};
 ghost use Rattle.debug_session.specs.Sessions.{StandsFor};
 ghost use Rattle.typed_tree.specs.Views.{program_view};
 ghost use Rattle.adapter_session.specs.Given.{given_numbers, is_of, is_on_line};
-ghost use Rattle.adapter_session.specs.Requested.{break_at, break_line, delete_line, evaluated, function_line_for, is_console, is_done, is_elsewhere, is_in, is_look, is_program, line_for, lines_of, only, set_lines, watch_line};
-ghost use Rattle.adapter_session.specs.Terms.{terms_of};
+ghost use Rattle.adapter_session.specs.Requested.{break_at, break_line, delete_line, evaluated, function_line_for, is_console, is_done, is_elsewhere, is_in, is_look, is_program, line_for, lines_of, move_lines, only, set_lines, value_lines, watch_line};
+ghost use Rattle.adapter_session.specs.Terms.{function_numbers, terms_of};
 
+use crate::functions::function_numbers;
 use crate::terms::Terms;
 use adapter_replies::{depth_of, is_set_there};
 use adapter_requests::{
@@ -58,13 +59,14 @@ pub fn command_lines<M: ExpressionMachine>(
     request: &Request<'_>,
 ) -> Result<Vec<String>, AllocError>
     ensures { (s : Setting) (d : Debugger) → StandsFor M.stands session.now s d
-        → IfOk result (λ lines. map string_bytes lines.items ≡ lines_of s.program path.now (terms_of terms.now).functions (depth (now s d)) d.stops request.now) }
+        → IfOk result (λ lines. map string_bytes lines.items ≡ lines_of s.program path.now (function_numbers (terms_of terms.now)) (depth (now s d)) d.stops request.now) }
 {
     let machine = session.machine();
+    let functions = function_numbers(&terms.functions);
     let scene = Scene {
         program: machine.program(),
         path,
-        functions: terms.functions.as_slice(),
+        functions: functions.as_slice(),
         depth: depth_of(machine),
         stops: session.stops(),
     };
@@ -90,12 +92,6 @@ fn request_lines(
         stops,
     } = scene;
     match request {
-        Request::Next => alone(alloc, "next"),
-        Request::StepIn => alone(alloc, "step"),
-        Request::StepOut => alone(alloc, "finish"),
-        Request::Continue => alone(alloc, "continue"),
-        Request::StepBack => alone(alloc, "reverse-step"),
-        Request::ReverseContinue => alone(alloc, "reverse-continue"),
         Request::SetBreakpoints { source, lines } => {
             if is_program(path, *source) {
                 break_lines(alloc, functions, stops, lines)
@@ -107,6 +103,19 @@ fn request_lines(
             alloc, program, functions, stops, asked,
         ),
         Request::SetDataBreakpoints { targets } => { watch_lines(alloc, functions, stops, targets) }
+        _ => value_lines(alloc, depth, request),
+    }
+}
+
+/// The command lines of a request about a value, and those of any other that sets no breakpoint or watch.
+fn value_lines(
+    alloc: Global,
+    depth: usize,
+    request: &Request<'_>,
+) -> Result<Vec<String>, AllocError>
+    ensures { IfOk result (λ lines. map string_bytes lines.items ≡ value_lines depth request.now) }
+{
+    match request {
         Request::SetVariable {
             reference,
             name,
@@ -130,25 +139,22 @@ fn request_lines(
             is_console(*context),
             is_elsewhere(depth, *frame),
         ),
-        Request::Initialize
-        | Request::Launch(_)
-        | Request::BreakpointLocations { .. }
-        | Request::GotoTargets { .. }
-        | Request::Goto { .. }
-        | Request::SetExceptionBreakpoints
-        | Request::ExceptionInfo
-        | Request::DataBreakpointInfo { .. }
-        | Request::ConfigurationDone
-        | Request::Threads
-        | Request::StackTrace { .. }
-        | Request::Scopes { .. }
-        | Request::Variables { .. }
-        | Request::Completions { .. }
-        | Request::Pause
-        | Request::Restart
-        | Request::Terminate
-        | Request::Disconnect
-        | Request::Unknown(_) => Ok(Vec::new(alloc)),
+        _ => move_lines(alloc, request),
+    }
+}
+
+/// The command line of a request that moves the program; none of one that does nothing.
+fn move_lines(alloc: Global, request: &Request<'_>) -> Result<Vec<String>, AllocError>
+    ensures { IfOk result (λ lines. map string_bytes lines.items ≡ move_lines request.now) }
+{
+    match request {
+        Request::Next => alone(alloc, "next"),
+        Request::StepIn => alone(alloc, "step"),
+        Request::StepOut => alone(alloc, "finish"),
+        Request::Continue => alone(alloc, "continue"),
+        Request::StepBack => alone(alloc, "reverse-step"),
+        Request::ReverseContinue => alone(alloc, "reverse-continue"),
+        _ => Ok(Vec::new(alloc)),
     }
 }
 
@@ -390,7 +396,7 @@ fn is_on_line(stop: Stop) -> bool
 }
 
 /// Whether a number is one of some.
-pub(crate) fn is_in(numbers: &[u32], number: u32) -> bool
+fn is_in(numbers: &[u32], number: u32) -> bool
     ensures { result ≡ is_in numbers.now number }
 {
     numbers.iter().any(|one| *one == number)

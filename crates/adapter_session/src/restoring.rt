@@ -1,58 +1,131 @@
 //! Breakpoints and watches that are made anew.
-ghost use Rattle.std.specs.Prelude.{◌≡◌, ◌∷◌, []};
+ghost use Rattle.std.specs.Prelude.{◌≡◌, ℕ, ◌∷◌, [], map, option_map};
 ghost use Rattle.gang_model.specs.Debugger.Debugger as model;
-ghost use Rattle.gang_model.specs.Debugger.Debugger.{Debugger, Setting};
+ghost use Rattle.gang_model.specs.Debugger.Debugger.{Debugger, DoBreak, Setting};
 ghost use Rattle.debug_answers.specs.Meanings.{IsStop};
 ghost use Rattle.debug_commands.specs.Views.{command_view};
 ghost use Rattle.debug_session.specs.Sessions.{StandsFor};
+ghost use Rattle.typed_tree.specs.Views.{program_view};
 ghost use Rattle.command_lists.specs.Lists.{HasDone};
-ghost use Rattle.adapter_session.specs.Restored.{made_anew, numbers, stop_commands, terms_anew};
-ghost use Rattle.adapter_session.specs.Terms.{terms_of};
+ghost use Rattle.adapter_session.specs.Given.{all_numbers};
+ghost use Rattle.adapter_session.specs.Restored as spec;
+ghost use Rattle.adapter_session.specs.Restored.{command_in, given_made, made_anew, numbers, reply_to, restored, stop_commands, terms_anew, with_made};
+ghost use Rattle.adapter_session.specs.Terms.{function_of, terms_of};
 
+use crate::functions::{FunctionStop, name_of};
 use crate::terms::Terms;
-use debug_answers::Stop;
+use arrayvec::ArrayVec;
+use debug_answers::{Answer, NumberedStop, Stop};
 use debug_commands::{Command, Target};
 use debug_session::Session;
-use debug_traits::RecordedMachine;
+use frame_expressions::ExpressionMachine;
+use function_lines::function_line;
+use typed_tree::Program;
 
-/// Makes the breakpoints and watches of a session anew in another one of the same program, in the order of their numbers, with the
-/// conditions and the counts that were asked for.
-pub fn restore_stops<M: RecordedMachine>(
+/// How many breakpoints and watches can be there.
+const MOST: usize = 64;
+
+/// Makes the breakpoints and watches of a session anew in another one, of the same program or of another, in the order of their numbers,
+/// with the conditions and the counts that were asked for. A breakpoint of a function stands where the new program has a function of that
+/// name, and what cannot be made there is left out.
+pub fn restore_stops<M: ExpressionMachine>(
     old: &Session<M>,
     terms: &mut Terms,
     session: &mut Session<M>,
 )
-    ensures done { (s : Setting) (d e : Debugger) → StandsFor M.stands old.now s d → StandsFor M.stands session.old s e
-        → HasDone M.stands s (stop_commands d.stops) e session.new }
-    ensures terms { (s : Setting) (d e : Debugger) → StandsFor M.stands old.now s d → StandsFor M.stands session.new s e
-        → terms_of terms.new ≡ terms_anew (terms_of terms.old) (numbers d.stops) (numbers e.stops) }
+    ensures done { (s t : Setting) (d e : Debugger) → StandsFor M.stands old.now s d → StandsFor M.stands session.old t e
+        → HasDone M.stands t (stop_commands t.program (terms_of terms.old).functions d.stops) e session.new }
+    ensures terms { (s t : Setting) (d e f : Debugger) → StandsFor M.stands old.now s d → StandsFor M.stands session.old t e → StandsFor M.stands session.new t f
+        → terms_of terms.new ≡ terms_anew (terms_of terms.old) (restored t (terms_of terms.old).functions d.stops e []) (numbers f.stops) }
 {
-    restore_all(old, session);
-    let restored = terms.carried(old.stops(), session.stops());
+    let made = restore_all(old, terms.functions.as_slice(), session);
+    let restored = terms.carried(made.as_slice(), session.stops());
     *terms = restored;
 }
 
-/// Makes the breakpoints and watches of a session anew in another one of the same program, in the order of their numbers.
-fn restore_all<M: RecordedMachine>(old: &Session<M>, session: &mut Session<M>)
-    ensures { (s : Setting) (d e : Debugger) → StandsFor M.stands old.now s d → StandsFor M.stands session.old s e
-        → HasDone M.stands s (stop_commands d.stops) e session.new }
+/// Makes the breakpoints and watches of a session anew in another one, in the order of their numbers, and says which could be made.
+fn restore_all<M: ExpressionMachine>(
+    old: &Session<M>,
+    functions: &[FunctionStop],
+    session: &mut Session<M>,
+) -> ArrayVec<NumberedStop, MOST>
+    ensures done { (s t : Setting) (d e : Debugger) → StandsFor M.stands old.now s d → StandsFor M.stands session.old t e
+        → HasDone M.stands t (stop_commands t.program (map function_of functions.now) d.stops) e session.new }
+    ensures made { (s t : Setting) (d e : Debugger) → StandsFor M.stands old.now s d → StandsFor M.stands session.old t e
+        → all_numbers result.items ≡ restored t (map function_of functions.now) d.stops e [] }
 {
+    let mut made = ArrayVec::new();
     let stops = old.stops();
     for index in 0..stops.len() {
-        make_anew(old.machine(), stops[index].stop, session);
+        let is_made = make_anew(old.machine(), functions, stops[index], session);
+        note_made(is_made, stops[index], &mut made);
+    }
+    made
+}
+
+/// Notes a breakpoint or a watch behind others, if it was made, where there is room.
+fn note_made(is_made: bool, entry: NumberedStop, made: &mut ArrayVec<NumberedStop, MOST>)
+    ensures { all_numbers made.new.items ≡ with_made is_made entry.number (all_numbers made.old.items) }
+{
+    if is_made && made.len() < MOST {
+        made.push(entry);
     }
 }
 
-/// Makes a breakpoint or a watch of the machine's program anew.
-fn make_anew<M: RecordedMachine>(machine: &M, stop: Stop, session: &mut Session<M>)
-    ensures { (s : Setting) (d e : Debugger) (meant : model.Stop) → M.stands machine.now s d → IsStop s stop meant → StandsFor M.stands session.old s e
-        → HasDone M.stands s (made_anew meant ∷ []) e session.new }
+/// Makes a breakpoint or a watch of a machine's program anew, and says whether it could be made.
+fn make_anew<M: ExpressionMachine>(
+    machine: &M,
+    functions: &[FunctionStop],
+    entry: NumberedStop,
+    session: &mut Session<M>,
+) -> bool
+    ensures there { (s t : Setting) (d e : Debugger) (meant : ℕ × model.Stop) → M.stands machine.now s d → entry.number ≡ meant.0 → IsStop s entry.stop meant.1
+        → StandsFor M.stands session.old t e → StandsFor M.stands session.new t (reply_to t (command_in t.program (map function_of functions.now) meant) e).next }
+    ensures made { (s t : Setting) (d e : Debugger) (meant : ℕ × model.Stop) → M.stands machine.now s d → entry.number ≡ meant.0 → IsStop s entry.stop meant.1
+        → StandsFor M.stands session.old t e → result ≡ spec.is_made (reply_to t (command_in t.program (map function_of functions.now) meant) e).answer }
 {
-    let _answer = session.do_command(stop_command(machine, stop));
+    let program = session.machine().program();
+    match command_anew(machine, functions, program, entry) {
+        Some(command) => is_made(&session.do_command(command)),
+        None => false,
+    }
+}
+
+/// Whether a breakpoint or a watch was made.
+fn is_made(answer: &Answer<'_>) -> bool
+    ensures { result ≡ given_made answer.now }
+{
+    matches!(answer, Answer::BreaksAt { .. } | Answer::Watches { .. })
+}
+
+/// The command that makes a breakpoint or a watch anew in a program, if it can stand there.
+fn command_anew<'a, M: ExpressionMachine>(
+    machine: &'a M,
+    functions: &[FunctionStop],
+    program: &Program,
+    entry: NumberedStop,
+) -> Option<Command<'a>>
+    ensures { (s : Setting) (d : Debugger) (meant : ℕ × model.Stop) → M.stands machine.now s d → entry.number ≡ meant.0 → IsStop s entry.stop meant.1
+        → option_map command_view result ≡ command_in (program_view program.now) (map function_of functions.now) meant }
+{
+    match name_of(functions, entry.number) {
+        Some(name) => break_on(function_line(program, name)),
+        None => Some(stop_command(machine, entry.stop)),
+    }
+}
+
+/// The command that makes a breakpoint on a line, if there is a line.
+fn break_on(line: Option<u32>) -> Option<Command<'static>>
+    ensures { option_map command_view result ≡ option_map DoBreak line }
+{
+    match line {
+        Some(line) => Some(Command::Break(line)),
+        None => None,
+    }
 }
 
 /// The command that makes a breakpoint or a watch.
-fn stop_command<M: RecordedMachine>(machine: &M, stop: Stop) -> Command<'_>
+fn stop_command<M: ExpressionMachine>(machine: &M, stop: Stop) -> Command<'_>
     ensures { (s : Setting) (d : Debugger) (meant : model.Stop) → M.stands machine.now s d → IsStop s stop meant
         → command_view result ≡ made_anew meant }
 {

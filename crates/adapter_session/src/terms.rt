@@ -1,33 +1,30 @@
 //! The conditions and the counts of an editor's breakpoints and watches, the messages of those that write a text in place of stopping, and
 //! which breakpoints are functions'.
-ghost use Rattle.std.specs.Prelude.{◌≡◌, ◌∷◌, [], drop, if◌then◌else◌, map, Some};
+ghost use Rattle.std.specs.Prelude.{◌≡◌, ◌∷◌, [], drop, map, Some};
 ghost use Rattle.conditional_stops.specs.Tables.{Table, condition_of, nothing, passes_of};
 ghost use Rattle.conditional_stops.specs.Views.{table_of};
 ghost use Rattle.log_points.specs.Points.{logs_of, silenced};
 ghost use Rattle.adapter_session.specs.Changes.{asked_view, change_view, text_of};
 ghost use Rattle.adapter_session.specs.Given.{all_numbers};
 ghost use Rattle.adapter_session.specs.Terms as spec;
-ghost use Rattle.adapter_session.specs.Terms.{terms_of};
+ghost use Rattle.adapter_session.specs.Terms.{function_of, terms_of};
 
 use crate::changes::{Asked, Change};
-use crate::lines::{Kind, is_in};
+use crate::functions::{FunctionStops, carried_functions, given_functions};
 use crate::logging::{carried_logs, given_logs};
-use arrayvec::ArrayVec;
 use conditional_stops::Conditions;
 use debug_answers::NumberedStop;
 use log_points::Logs;
 
-/// How many breakpoints of functions can be there.
-const ROOM: usize = 64;
-
 /// The conditions and the counts of breakpoints and watches, by their numbers: as they were asked for, and as the run has left them. And
-/// those that write a text, which stop nowhere, with what the run has left of their conditions and counts; and which are functions'.
+/// those that write a text, which stop nowhere, with what the run has left of their conditions and counts; and which are functions', by
+/// the functions' names.
 #[derive(Drop)]
 pub struct Terms {
     pub(crate) asked: Conditions,
     pub(crate) left: Conditions,
     pub(crate) logs: Logs,
-    pub(crate) functions: ArrayVec<u32, ROOM>,
+    pub(crate) functions: FunctionStops,
 }
 
 impl Terms {
@@ -39,14 +36,14 @@ impl Terms {
             asked: Conditions::new(),
             left: Conditions::new(),
             logs: Logs::new(Conditions::new()),
-            functions: ArrayVec::new(),
+            functions: FunctionStops::new(),
         }
     }
 
     /// Those of which no stop was passed yet, by three tables that are the same.
-    fn anew(asked: Conditions, left: Conditions, logs: Logs, functions: ArrayVec<u32, ROOM>) -> Self
+    fn anew(asked: Conditions, left: Conditions, logs: Logs, functions: FunctionStops) -> Self
         ensures { (table : Table) → table_of asked ≡ table → table_of left ≡ table → table_of logs.terms ≡ table
-            → terms_of result ≡ spec.anew table (logs_of logs) functions.items }
+            → terms_of result ≡ spec.anew table (logs_of logs) (map function_of functions.items) }
     {
         let left = silenced(&logs, left);
         Terms {
@@ -59,23 +56,17 @@ impl Terms {
 
     /// Gives those that came in place of others what is asked for them; the others of these stops have their own still.
     pub(crate) fn change(&mut self, stops: &[NumberedStop], change: &Change<'_>)
-        ensures { terms_of self.new ≡ spec.changed (change_view change.now).kind (all_numbers stops.now) (drop (change_view change.now).staying (all_numbers stops.now))
+        ensures { terms_of self.new ≡ spec.changed (all_numbers stops.now) (drop (change_view change.now).staying (all_numbers stops.now))
             (change_view change.now).asked (terms_of self.old) }
     {
         let came = behind(stops, change.staying);
-        let changed = self.changed(change.kind, stops, came, change.asked.as_slice());
+        let changed = self.changed(stops, came, change.asked.as_slice());
         *self = changed;
     }
 
-    /// Those of stops that stand, of which some of a kind came.
-    fn changed(
-        &self,
-        kind: Kind,
-        stops: &[NumberedStop],
-        came: &[NumberedStop],
-        asked: &[Asked<'_>],
-    ) -> Self
-        ensures { terms_of result ≡ spec.changed kind (all_numbers stops.now) (all_numbers came.now) (map asked_view asked.now) (terms_of self.now) }
+    /// Those of stops that stand, of which some came.
+    fn changed(&self, stops: &[NumberedStop], came: &[NumberedStop], asked: &[Asked<'_>]) -> Self
+        ensures { terms_of result ≡ spec.changed (all_numbers stops.now) (all_numbers came.now) (map asked_view asked.now) (terms_of self.now) }
     {
         let terms = given(self.logs.terms(), stops, came, asked);
         let logs = given_logs(&self.logs, stops, came, asked, terms);
@@ -84,7 +75,7 @@ impl Terms {
             asked: given(&self.asked, stops, came, asked),
             left: silenced(&logs, left),
             logs,
-            functions: functions_after(self.functions.as_slice(), kind, stops, came),
+            functions: given_functions(self.functions.as_slice(), stops, came, asked),
         }
     }
 
@@ -167,83 +158,12 @@ fn give_next<'a>(
 }
 
 /// The bytes of a text that may be there.
-fn bytes_of(text: Option<&str>) -> Option<&[u8]>
+pub(crate) fn bytes_of(text: Option<&str>) -> Option<&[u8]>
     ensures { text_of result ≡ text_of text.entry }
 {
     match text {
         Some(text) => Some(text.as_bytes()),
         None => None,
-    }
-}
-
-/// The numbers of functions' breakpoints, where stops of a kind came.
-fn functions_after(
-    functions: &[u32],
-    kind: Kind,
-    stops: &[NumberedStop],
-    came: &[NumberedStop],
-) -> ArrayVec<u32, ROOM>
-    ensures { result.items ≡ spec.functions_after kind (all_numbers stops.now) (all_numbers came.now) functions.now }
-{
-    match kind {
-        Kind::Functions => numbers(came),
-        Kind::Lines | Kind::Watches => carried_functions(functions, stops, stops),
-    }
-}
-
-/// The numbers of stops, as many as there is room for.
-fn numbers(stops: &[NumberedStop]) -> ArrayVec<u32, ROOM>
-    ensures { result.items ≡ spec.with_numbers (all_numbers stops.now) [] }
-{
-    let mut numbers = ArrayVec::new();
-    for entry in stops {
-        put_number(&mut numbers, entry.number);
-    }
-    numbers
-}
-
-/// Puts a number behind others, where there is room.
-fn put_number(numbers: &mut ArrayVec<u32, ROOM>, number: u32)
-    ensures { numbers.new.items ≡ spec.with_number number numbers.old.items }
-{
-    if numbers.len() < ROOM {
-        numbers.push(number);
-    }
-}
-
-/// The numbers of functions' breakpoints, for the ones that stand in place of them.
-fn carried_functions(
-    functions: &[u32],
-    old: &[NumberedStop],
-    stops: &[NumberedStop],
-) -> ArrayVec<u32, ROOM>
-    ensures { result.items ≡ spec.carried_functions functions.now (all_numbers old.now) (all_numbers stops.now) [] }
-{
-    let mut made = ArrayVec::new();
-    let mut stops = stops;
-    for entry in old {
-        stops = carry_function(is_in(functions, entry.number), &mut made, stops);
-    }
-    made
-}
-
-/// Notes the first of some stops, where it is a function's, and says which stand behind it.
-fn carry_function<'a>(
-    is_function: bool,
-    made: &mut ArrayVec<u32, ROOM>,
-    stops: &'a [NumberedStop],
-) -> &'a [NumberedStop]
-    ensures noted { made.new.items ≡ (if is_function then spec.with_first (all_numbers stops.now) made.old.items else made.old.items) }
-    ensures behind { all_numbers result.now ≡ drop 1 (all_numbers stops.now) }
-{
-    match stops {
-        [first, others @ ..] => {
-            if is_function {
-                put_number(made, first.number);
-            }
-            others
-        }
-        [] => stops,
     }
 }
 

@@ -3,9 +3,10 @@ use crate::ends::{Ended, end_of};
 use crate::runs::session;
 use crate::stops::end_of_verdict;
 use adapter_replies::{
-    Threads, answer_text, exception_reply, no_value_text, reply_to, thread_reply,
+    Threads, answer_text, exception_reply, expression_variables, no_value_text, opened_expression,
+    reply_to, thread_reply,
 };
-use adapter_requests::{LineBreakpoint, Reply, Request, StopReason};
+use adapter_requests::{Context, Filter, LineBreakpoint, Page, Reply, Request, StopReason};
 use adapter_session::{Answered, Terms, answer_request, command_lines, stop_at_beginning};
 use conditional_stops::CountedStop;
 use debug_answers::Answer;
@@ -30,6 +31,8 @@ pub(crate) fn call(alloc: Global, name: &str) -> Option<Ended> {
         "adapter_session::stop_at_beginning" => begin(alloc),
         "adapter_replies::no_value_text" => Some(end_of(&no_value_text(alloc, NoValue::NoFrame))),
         "adapter_replies::reply_to" => Some(list_frames(alloc, &session(alloc)?)),
+        "adapter_replies::opened_expression" => Some(open_value(alloc, &session(alloc)?)),
+        "adapter_replies::expression_variables" => Some(list_lanes(alloc, &session(alloc)?)),
         "adapter_replies::exception_reply" => Some(tell_fault(alloc)),
         "adapter_replies::answer_text" => Some(write_frames(alloc, &session(alloc)?)),
         "adapter_replies::thread_reply" => Some(list_threads(alloc, &session(alloc)?)),
@@ -104,6 +107,39 @@ fn list_frames(alloc: Global, session: &ProgramSession<4>) -> Ended {
         },
         true,
         None,
+    ))
+}
+
+/// Looks whether the value of an expression opens.
+fn open_value(alloc: Global, session: &ProgramSession<4>) -> Ended {
+    let request = Request::Evaluate {
+        expression: CONDITION,
+        frame: None,
+        context: Context::Watch,
+        is_hexadecimal: false,
+    };
+    let told = Reply::Evaluated {
+        text: String::new(alloc),
+        reason: None,
+        reference: 0,
+    };
+    end_of(&opened_expression(alloc, session.machine(), &request, &told))
+}
+
+/// Replies the lanes of the value of an expression.
+fn list_lanes(alloc: Global, session: &ProgramSession<4>) -> Ended {
+    let page = Page {
+        start: None,
+        count: None,
+        filter: Filter::All,
+    };
+    end_of(&expression_variables(
+        alloc,
+        session.machine(),
+        1,
+        CONDITION.as_bytes(),
+        false,
+        page,
     ))
 }
 

@@ -2,9 +2,9 @@
 use crate::ends::{Ended, end_of, end_of_command};
 use crate::samples::{INPUT, OPTIONS, SOURCE};
 use debug_commands::Command;
-use debug_traits::FramedMachine;
+use debug_traits::{FramedMachine, RecordedMachine};
 use desk_options::read_verb;
-use expression_watches::{ExpressionWatch, expression_sight};
+use expression_watches::{ExpressionWatch, expression_sight, judge_text};
 use frame_expressions::ExpressionMachine;
 use frame_values::value_of_expression;
 use gang_machine::Machine;
@@ -44,6 +44,7 @@ pub(crate) fn call(alloc: Global, name: &str) -> Option<Ended> {
         "lane_picture::draw" => Some(draw_picture(alloc, &mut session(alloc)?)),
         "run_page::write_page" => Some(write_run(alloc, &mut session(alloc)?)),
         "frame_values::value_of_expression" => Some(evaluate(alloc, &session(alloc)?)),
+        "expression_watches::judge_text" => judge(alloc, &session(alloc)?),
         "expression_watches::expression_sight" => see(alloc, &session(alloc)?),
         "prompt_texts::told_variable" => tell_variable(alloc, &session(alloc)?),
         "source_port::port" => Some(end_of(&port(alloc, SOURCE))),
@@ -116,6 +117,13 @@ fn write_run(alloc: Global, session: &mut ProgramSession<4>) -> Ended {
 /// The value of an expression where the program stands.
 fn evaluate(alloc: Global, session: &ProgramSession<4>) -> Ended {
     end_of(&value_of_expression(alloc, b"n + t[1]", 1, session.machine()))
+}
+
+/// Whether a text means something where the program stands.
+fn judge(alloc: Global, session: &ProgramSession<4>) -> Option<Ended> {
+    let machine = session.machine();
+    let spot = machine.spot(1)?;
+    Some(end_of(&judge_text(alloc, b"n + t[1]", machine.program(), spot)))
 }
 
 /// What a watched expression shows where the program stands.

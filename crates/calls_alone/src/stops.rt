@@ -2,9 +2,10 @@
 use crate::ends::{CallFault, Ended};
 use crate::runs::session;
 use conditional_stops::{
-    Conditions, CountedStop, Direction, FrameWatch, MoveEnd, Verdict, ask_breakpoints, continue_on,
+    Conditions, CountedStop, Direction, MoveEnd, Verdict, Watch, ask_breakpoints, continue_on,
     judge_condition, walk_on,
 };
+use debug_answers::{Answer, Refusal};
 use debug_commands::{Command, read_command};
 use debug_traits::RecordedMachine;
 use ispc_debugger::ProgramSession;
@@ -65,7 +66,7 @@ fn walk(alloc: Global, session: &mut ProgramSession<4>) -> Ended {
     let Some(mut conditions) = conditions(session) else {
         return Ended::Otherwise;
     };
-    let watches = [FrameWatch::default()];
+    let watches = [Watch::default()];
     end_of_move(
         walk_on(
             alloc,
@@ -94,7 +95,7 @@ fn conditions(session: &mut ProgramSession<4>) -> Option<Conditions> {
 /// How a move ended that goes on to a breakpoint whose condition holds.
 fn end_of_move(end: MoveEnd<'_>) -> Ended {
     match end {
-        MoveEnd::NoMemory => Ended::Memory,
+        MoveEnd::NoMemory | MoveEnd::Answered(Answer::Refused(Refusal::Memory)) => Ended::Memory,
         MoveEnd::Stopped(
             CountedStop {
                 verdict: Some(verdict),

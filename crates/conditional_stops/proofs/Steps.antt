@@ -13,11 +13,11 @@ use Rattle.conditional_stops.specs.declared.going.Direction.{Direction}
 use Rattle.conditional_stops.specs.declared.going.Direction.TheVariants as direction
 use Rattle.conditional_stops.specs.declared.going.MoveEnd.{MoveEnd}
 use Rattle.conditional_stops.specs.declared.going.MoveEnd.TheVariants as end
-use Rattle.conditional_stops.specs.declared.sights.FrameWatch.{FrameWatch}
+use Rattle.conditional_stops.specs.declared.watches.Watch.{Watch}
 use Rattle.conditional_stops.specs.Going.{times}
 use Rattle.conditional_stops.specs.Reasons.{Asks}
 use Rattle.conditional_stops.specs.Tables.{Table}
-use Rattle.conditional_stops.specs.Walking.{EndsStepBy, EndsWalk, PassesStep, PassesSteps, StepsOnce, is_here, last_answer, reasons_on, step_of, tells_here}
+use Rattle.conditional_stops.specs.Walking.{EndsHere, EndsStepBy, EndsWalk, PassesStep, PassesSteps, StepsOnce, is_here, last_answer, reasons_on, step_of, tells_here}
 use Rattle.conditional_stops.proofs.Passing.{forward_stops, backward_stops, refused_stops}
 
 -- ---- the reply
@@ -59,7 +59,7 @@ step_stops direction.Backward s d = refused_stops (backward_refusal (kept_steps 
 
 -- ---- steps one after another
 
-module _ (s : Setting) (way : Direction) (watches : List FrameWatch) where
+module _ (s : Setting) (way : Direction) (watches : List Watch) where
   -- one step more
   pub steps_on : (n : ℕ) (d at : Debugger) (table middle new : Table) → PassesSteps n s way watches d table at middle → PassesStep s way watches at middle new
       → PassesSteps (suc n) s way watches d table (do_command s (step_of way) at).next new
@@ -77,7 +77,7 @@ module _ (s : Setting) (way : Direction) (watches : List FrameWatch) where
   steps_lead_on zero d at table new (same, left) = (do_command s (step_of way) d, inl (inl refl), ap (λ x. (do_command s (step_of way) x).next) same)
   steps_lead_on (suc n) d at table new (between, first, others) = (do_command s (step_of way) d, inl (inl refl), steps_lead_on n (do_command s (step_of way) d).next at between new others)
 
-module _ {M : Type 0} (stands : M → Setting → Debugger → Type 0) (s : Setting) (way : Direction) (watches : List FrameWatch) where
+module _ {M : Type 0} (stands : M → Setting → Debugger → Type 0) (s : Setting) (way : Direction) (watches : List Watch) where
   -- a move that was ended
   pub ends_walk : (most passed : ℕ) (at : Debugger) (table new : Table) (ended : MoveEnd) (session : Session M) → passed < most → EndsStepBy stands s way watches at table ended session new
       → EndsWalk stands s way watches most passed at table ended session new
@@ -97,9 +97,17 @@ module _ {M : Type 0} (stands : M → Setting → Debugger → Type 0) (s : Sett
   all_stepped passed d at table before new end.NoMemory session passes by =
       record { after = at; leads = steps_lead s way watches passed d at table before passes; there = by.0 }
 
-  -- a step that was made, where nothing counts: it is the last one, or the next one can be made
-  pub step_made : (d : Debugger) (table new : Table) (last : Option Answer) (session : Session M) → StandsFor stands session s (do_command s (step_of way) d).next → is_here (do_command s (step_of way) d).answer ≡ true
-      → Asks s (do_command s (step_of way) d).next (reasons_on s d (do_command s (step_of way) d).next watches) table None new → last_answer way s (do_command s (step_of way) d).next watches ≡ last
-      → StepsOnce stands s way watches d table (option_map (λ given. end.Answered given) last) session new
-  step_made d table new None session there made none is = (there, record { made = made; none = none; more = is })
-  step_made d table new (Some given) session there made none is = (there, inr (made, none, is))
+  -- a step that was made, and what ends the move behind it
+  pub step_ended : (d : Debugger) (table new : Table) (ended : Option MoveEnd) (session : Session M) → StandsFor stands session s (do_command s (step_of way) d).next
+      → is_here (do_command s (step_of way) d).answer ≡ true → EndsHere s way watches d (do_command s (step_of way) d).next table ended new → StepsOnce stands s way watches d table ended session new
+  step_ended d table new None session there made (none, more) = (there, record { made = made; none = none; more = more })
+  step_ended d table new (Some (end.Stopped counted)) session there made first = (there, (made, first))
+  step_ended d table new (Some (end.Answered given)) session there made (none, is) = (there, inr (inl (made, none, is)))
+  step_ended d table new (Some end.MostPassed) session there made by = absurd by
+  step_ended d table new (Some end.NoMemory) session there made by = absurd by
+
+-- where nothing counts behind a step, it is the last one, or the next one can be made
+pub last_ended : (s : Setting) (way : Direction) (watches : List Watch) (began d : Debugger) (table new : Table) (last : Option Answer) → Asks s d (reasons_on s began d watches) table None new
+    → last_answer way s d watches ≡ last → EndsHere s way watches began d table (option_map (λ given. end.Answered given) last) new
+last_ended s way watches began d table new None none is = (none, is)
+last_ended s way watches began d table new (Some given) none is = (none, is)

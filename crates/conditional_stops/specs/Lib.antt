@@ -6,4 +6,5 @@ pub mod Tables
 pub mod Verdicts
 pub mod Views
 pub mod Walking
+pub mod Watches
 pub mod Watching

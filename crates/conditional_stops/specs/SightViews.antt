@@ -1,11 +1,19 @@
--- The words that watches of frames show, as they are noted.
+-- What watches of frames show, as it is noted.
 use Rattle.std.specs.Prelude.{ℕ, List, map, Option, option_map}
 use Rattle.arrayvec.specs.ArrayVec.{ArrayVec}
+use Rattle.conditional_stops.specs.declared.watches.Sighted.{Sighted}
+use Rattle.conditional_stops.specs.declared.watches.Sighted.TheVariants as noted
+use Rattle.conditional_stops.specs.Watches.{InLanes, Seen, Words}
 
--- what a watch shows, if it shows anything
+-- what a watch of a variable shows, if it shows anything
 abbrev pub sight_view : Option (ArrayVec ℕ) → Option (List ℕ)
 sight_view shown = option_map (λ words. words.items) shown
 
+-- what a watch of either kind shows
+abbrev pub seen_view : Sighted → Seen
+seen_view (noted.Words shown) = Words (sight_view shown)
+seen_view (noted.InLanes shown) = InLanes shown.items
+
 -- the same of each
-abbrev pub sights_view : List (Option (ArrayVec ℕ)) → List (Option (List ℕ))
-sights_view shown = map sight_view shown
+abbrev pub sights_view : List Sighted → List Seen
+sights_view shown = map seen_view shown

@@ -1,22 +1,11 @@
 -- What a watch of a variable of a frame shows, and whether it changed.
-use Rattle.std.specs.Prelude.{ℕ, ◌==◌, Bool, true, false, not, nat_lt, List, map, filter, take, Option, Some, None, if◌then◌else◌}
-use Rattle.gang_types.specs.declared.places.VarId.{VarId}
-use Rattle.gang_types.specs.declared.places.VarId.TheVariants as id
+use Rattle.std.specs.Prelude.{ℕ, Bool, false, not, nat_lt, List, take, Option, Some, None, if◌then◌else◌}
 use Rattle.gang_model.specs.Source.Names.{same_text}
 use Rattle.gang_model.specs.Types.Tree.{Variable}
-use Rattle.gang_model.specs.Running.State.{State}
+use Rattle.gang_model.specs.Running.State.{State, same_id}
 use Rattle.gang_model.specs.Debugger.Debugger.{Debugger, Setting, depth, now, part_shown, shown_words}
 use Rattle.debug_traits.specs.Frames.{found_at, state_at}
-use Rattle.conditional_stops.specs.declared.reasons.Reason.{Reason}
-use Rattle.conditional_stops.specs.declared.reasons.Reason.TheVariants as reason
 use Rattle.conditional_stops.specs.declared.sights.FrameWatch.{FrameWatch}
-
--- whether two variables are one
-abbrev pub same_id : VarId → VarId → Bool
-same_id (id.File a) (id.File b) = a == b
-same_id (id.File a) (id.Local b) = false
-same_id (id.Local a) (id.File b) = false
-same_id (id.Local a) (id.Local b) = a == b
 
 -- whether the frame of a watch is not there, where there are so many: it has been left, or is not yet entered
 abbrev pub is_gone : (depth : ℕ) → FrameWatch → Bool
@@ -42,7 +31,3 @@ abbrev pub differ : (before now : Option (List ℕ)) → Bool
 differ (Some old) (Some new) = not (same_text old new)
 differ (Some old) None = false
 differ None new = false
-
--- the watches of frames that show other words than where a command began, in their order
-abbrev pub changed_frames : Setting → (began d : Debugger) → List FrameWatch → List Reason
-changed_frames s began d watches = map (λ w. reason.Watch w.number) (filter (λ w. differ (sight s began w) (sight s d w)) watches)

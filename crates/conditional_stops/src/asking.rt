@@ -8,16 +8,16 @@ ghost use Rattle.debug_session.specs.Moves.{noted, watch_words};
 ghost use Rattle.debug_session.specs.Sessions.{StandsFor, bare};
 ghost use Rattle.conditional_stops.specs.Reasons as spec;
 ghost use Rattle.conditional_stops.specs.Reasons.{Asks, AsksOne};
-ghost use Rattle.conditional_stops.specs.Sights.{changed_frames, sight};
-ghost use Rattle.conditional_stops.specs.SightViews.{sights_view};
+ghost use Rattle.conditional_stops.specs.SightViews.{seen_view, sights_view};
 ghost use Rattle.conditional_stops.specs.Tables.{asked_condition, is_disabled, passes_of};
 ghost use Rattle.conditional_stops.specs.Verdicts.{IsJudged};
 ghost use Rattle.conditional_stops.specs.Views.{table_of};
+ghost use Rattle.conditional_stops.specs.Watches.{Seen, changed, changed_frames, seen};
 
 use crate::judging::{Verdict, judge_condition};
 use crate::reasons::{CountedStop, Reason};
-use crate::sights::{FrameWatch, Sights, differs, noted_sight};
 use crate::table::Conditions;
+use crate::watches::{Sighted, Sights, Watch, has_changed, noted_sight};
 use crate::watching::{WordsBefore, noted_at, shows};
 use debug_answers::Stop;
 use debug_session::Session;
@@ -95,43 +95,59 @@ fn ask_watches<M: ExpressionMachine>(
     first
 }
 
-/// Asks the watches of frames that show other words than were noted: the first that counts.
+/// Asks the watches of frames that show another value than was noted before: the first that counts.
 pub(crate) fn ask_frames<M: ExpressionMachine>(
     alloc: Global,
-    watches: &[FrameWatch],
-    sights: &Sights,
+    watches: &[Watch],
+    before: &Sights,
+    here: &Sights,
     conditions: &mut Conditions,
     session: &Session<M>,
 ) -> Option<CountedStop>
-    ensures { (s : Setting) (began d : Debugger) → StandsFor M.stands session.now s d → sights_view sights.now.items ≡ map (sight s began) watches.now
+    ensures { (s : Setting) (began d : Debugger) → StandsFor M.stands session.now s d → sights_view before.now.items ≡ map (seen s began) watches.now
+        → sights_view here.now.items ≡ map (seen s d) watches.now
         → Asks s d (changed_frames s began d watches.now) (table_of conditions.old) result (table_of conditions.new) }
 {
     let mut first = None;
     let mut place = 0;
     for watch in watches {
-        let noted = noted_sight(sights, place);
-        let counted = ask_frame(alloc, watch, noted, conditions, session.machine());
+        let old = noted_sight(before, place);
+        let new = noted_sight(here, place);
+        let counted = ask_frame(alloc, watch, old, new, conditions, session.machine());
         first = first_of(first, counted);
         place += 1;
     }
     first
 }
 
-/// Asks the watch of a frame, if it shows other words than were noted.
+/// Asks the watch of a frame, if it showed another value before.
 fn ask_frame<M: ExpressionMachine>(
     alloc: Global,
-    watch: &FrameWatch,
-    noted: Option<&[u64]>,
+    watch: &Watch,
+    old: Option<&Sighted>,
+    new: Option<&Sighted>,
     conditions: &mut Conditions,
     machine: &M,
 ) -> Option<CountedStop>
-    ensures { (s : Setting) (began d : Debugger) → M.stands machine.now s (bare d) → option_map (λ words. words.now) noted.entry ≡ sight s began watch.now
+    ensures { (s : Setting) (began d : Debugger) → M.stands machine.now s (bare d) → option_map (λ shown. seen_view shown.now) old.entry ≡ Some (seen s began watch.now)
+        → option_map (λ shown. seen_view shown.now) new.entry ≡ Some (seen s d watch.now)
         → Asks s d (changed_frames s began d (watch.now ∷ [])) (table_of conditions.old) result (table_of conditions.new) }
 {
-    if differs(machine, watch, noted) {
-        ask(alloc, Reason::Watch(watch.number), conditions, machine)
+    if differs(old, new) {
+        ask(alloc, Reason::Watch(watch.number()), conditions, machine)
     } else {
         None
+    }
+}
+
+/// Whether what was noted before differs from what is noted now.
+fn differs(old: Option<&Sighted>, new: Option<&Sighted>) -> bool
+    ensures { (before now : Seen) → option_map (λ shown. seen_view shown.now) old.entry ≡ Some before
+        → option_map (λ shown. seen_view shown.now) new.entry ≡ Some now → result ≡ changed before now }
+{
+    match (old, new) {
+        (Some(old), Some(new)) => has_changed(old, new),
+        (Some(_), None) | (None, _) => false,
     }
 }
 

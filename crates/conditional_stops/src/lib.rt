@@ -8,6 +8,7 @@ mod reasons;
 mod sights;
 mod table;
 mod walking;
+mod watches;
 mod watching;
 
 pub use asking::ask_breakpoints;
@@ -17,3 +18,4 @@ pub use reasons::{CountedStop, Reason};
 pub use sights::{FrameWatch, LONGEST_NAME, Sight, differ, sight, words_of};
 pub use table::{ConditionRefusal, Conditions, LONGEST_CONDITION};
 pub use walking::walk_on;
+pub use watches::Watch;

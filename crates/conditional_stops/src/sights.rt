@@ -1,18 +1,18 @@
 //! Variables of frames that are watched, and what they show.
-ghost use Rattle.std.specs.Prelude.{◌≡◌, ℕ, ◌∷◌, [], List, drop, map, Option, Some, option_map, take, OnOk};
+ghost use Rattle.std.specs.Prelude.{◌≡◌, ◌∷◌, [], Some, option_map, take};
 ghost use Rattle.gang_model.specs.Source.Names.{same_text};
+ghost use Rattle.gang_model.specs.Running.State.{same_id};
 ghost use Rattle.gang_model.specs.Types.Tree.{Variable};
 ghost use Rattle.gang_model.specs.Debugger.Debugger.{Debugger, Setting, now, part_shown, shown_words};
 ghost use Rattle.debug_session.specs.Sessions.{bare};
 ghost use Rattle.debug_traits.specs.Frames.{IsShownAt, state_at};
 ghost use Rattle.conditional_stops.specs.Sights as spec;
-ghost use Rattle.conditional_stops.specs.SightViews.{sight_view, sights_view};
+ghost use Rattle.conditional_stops.specs.SightViews.{sight_view};
 
 use crate::judging::top_depth;
 use arrayvec::ArrayVec;
 use debug_traits::{FramedMachine, Shown};
 use gang_types::VarId;
-use std::alloc::AllocError;
 
 /// The most bytes of the name of a variable that is watched.
 pub const LONGEST_NAME: usize = 256;
@@ -25,9 +25,6 @@ type Words = ArrayVec<u64, WIDEST>;
 
 /// What a watch shows, where its frame is there and its variable in scope.
 pub type Sight = Option<Words>;
-
-/// What each watch showed, in their order.
-pub(crate) type Sights = Vec<Sight>;
 
 /// A watch of a variable of a frame, or of one of its lanes or elements: its number, the depth of the frame, and the variable with its name.
 #[derive(Drop)]
@@ -51,36 +48,6 @@ impl Default for FrameWatch {
             at: None,
             name: ArrayVec::new(),
         }
-    }
-}
-
-/// Notes what each watch shows.
-///
-/// # Errors
-///
-/// Out of memory.
-pub(crate) fn note_sights<M: FramedMachine>(
-    machine: &M,
-    watches: &[FrameWatch],
-    sights: &mut Sights,
-) -> Result<(), AllocError>
-    ensures { (s : Setting) (d : Debugger) → M.stands machine.now s (bare d) → OnOk result (sights_view sights.new.items ≡ map (spec.sight s d) watches.now) }
-{
-    sights.clear();
-    for watch in watches {
-        sights.push(sight(machine, watch))?;
-    }
-    Ok(())
-}
-
-/// What was noted at a place.
-pub(crate) fn noted_sight(sights: &Sights, place: usize) -> Option<&[u64]>
-    ensures { (old : Option (List ℕ)) (others : List (Option (List ℕ))) → drop place (sights_view sights.now.items) ≡ old ∷ others
-        → option_map (λ words. words.now) result ≡ old }
-{
-    match sights.get(place) {
-        Some(noted) => words_of(noted),
-        None => None,
     }
 }
 
@@ -109,18 +76,6 @@ pub fn sight<M: FramedMachine>(machine: &M, watch: &FrameWatch) -> Sight
     }
 }
 
-/// Whether a watch shows other words than were noted.
-pub(crate) fn differs<M: FramedMachine>(
-    machine: &M,
-    watch: &FrameWatch,
-    noted: Option<&[u64]>,
-) -> bool
-    ensures { (s : Setting) (d : Debugger) → M.stands machine.now s (bare d)
-        → result ≡ spec.differ (option_map (λ words. words.now) noted.entry) (spec.sight s d watch.now) }
-{
-    differ(noted, &sight(machine, watch))
-}
-
 /// Whether other words were shown before; where none were, or none are, nothing changed.
 pub fn differ(old: Option<&[u64]>, new: &Sight) -> bool
     ensures { result ≡ spec.differ (option_map (λ words. words.now) old.entry) (sight_view new.now) }
@@ -140,7 +95,7 @@ fn is_equal(old: &[u64], new: &[u64]) -> bool
 
 /// Whether two variables are one.
 fn is_same(one: VarId, other: VarId) -> bool
-    ensures { result ≡ spec.same_id one other }
+    ensures { result ≡ same_id one other }
 {
     match (one, other) {
         (VarId::File(a), VarId::File(b)) => a == b,

@@ -1,4 +1,4 @@
-//! `continue` and `reverse-continue` by single steps, where variables of frames are watched.
+//! `continue` and `reverse-continue` by single steps, where it is watched what frames show.
 ghost use Rattle.std.specs.Prelude.{◌≡◌, map, option_map, OnOk};
 ghost use Rattle.std.specs.List.{list_any};
 ghost use Rattle.gang_model.specs.Debugger.Debugger as model;
@@ -6,20 +6,20 @@ ghost use Rattle.gang_model.specs.Debugger.Debugger.{Debugger, Setting, now};
 ghost use Rattle.debug_session.specs.Moves.{noted, watch_words};
 ghost use Rattle.debug_session.specs.Sessions.{StandsFor};
 ghost use Rattle.conditional_stops.specs.Reasons.{Asks};
-ghost use Rattle.conditional_stops.specs.Sights.{is_gone, sight};
 ghost use Rattle.conditional_stops.specs.SightViews.{sights_view};
 ghost use Rattle.conditional_stops.specs.Walking as spec;
-ghost use Rattle.conditional_stops.specs.Walking.{StepsOnce, WalksOn};
+ghost use Rattle.conditional_stops.specs.Walking.{EndsHere, StepsOnce, WalksOn};
 ghost use Rattle.conditional_stops.specs.Views.{table_of};
+ghost use Rattle.conditional_stops.specs.Watches.{is_away, seen};
 
 use crate::asking::{ask_all, ask_frames, first_of};
 use crate::going::{Direction, MoveEnd, Moved};
 use crate::judging::top_depth;
 use crate::reasons::CountedStop;
-use crate::sights::{FrameWatch, Sights, note_sights};
 use crate::table::Conditions;
+use crate::watches::{Sights, Watch, note_sights};
 use crate::watching::{WordsBefore, note_words};
-use debug_answers::Answer;
+use debug_answers::{Answer, Refusal};
 use debug_session::Session;
 use debug_traits::RecordedMachine;
 use frame_expressions::ExpressionMachine;
@@ -32,13 +32,13 @@ struct Before {
     sights: Sights,
 }
 
-/// Goes on by single steps, so many at most, until a stop counts, a variable of a frame that is watched has changed, the frame of a
-/// watch is not there, or something else ends the move. Memory is wanted to read conditions, and to note what watches show.
+/// Goes on by single steps, so many at most, until a stop counts, what is watched of a frame has changed, the frame of a watch is not
+/// there, or something else ends the move. Memory is wanted to read conditions, and to note what watches show.
 pub fn walk_on<'a, M: ExpressionMachine>(
     alloc: Global,
     direction: Direction,
     most: u32,
-    watches: &[FrameWatch],
+    watches: &[Watch],
     conditions: &mut Conditions,
     session: &mut Session<M>,
 ) -> Moved<'a>
@@ -64,7 +64,7 @@ pub fn walk_on<'a, M: ExpressionMachine>(
 fn step_once<'a, M: ExpressionMachine>(
     alloc: Global,
     direction: Direction,
-    watches: &[FrameWatch],
+    watches: &[Watch],
     before: &mut Before,
     conditions: &mut Conditions,
     session: &mut Session<M>,
@@ -72,7 +72,7 @@ fn step_once<'a, M: ExpressionMachine>(
     ensures { (s : Setting) (d : Debugger) → StandsFor M.stands session.old s d
         → StepsOnce M.stands s direction watches.now d (table_of conditions.old) result session.new (table_of conditions.new) }
 {
-    match note(watches, before, session) {
+    match note(alloc, watches, before, session) {
         Ok(()) => step_noted(alloc, direction, watches, before, conditions, session),
         Err(_) => Some(MoveEnd::NoMemory),
     }
@@ -84,35 +84,59 @@ fn step_once<'a, M: ExpressionMachine>(
 ///
 /// Out of memory.
 fn note<M: ExpressionMachine>(
-    watches: &[FrameWatch],
+    alloc: Global,
+    watches: &[Watch],
     before: &mut Before,
     session: &Session<M>,
 ) -> Result<(), AllocError>
     ensures { (s : Setting) (d : Debugger) → StandsFor M.stands session.now s d → OnOk result
-        ((noted before.new.words.items ≡ watch_words (now s d) d.stops) × (sights_view before.new.sights.items ≡ map (sight s d) watches.now)) }
+        ((noted before.new.words.items ≡ watch_words (now s d) d.stops) × (sights_view before.new.sights.items ≡ map (seen s d) watches.now)) }
 {
     note_words(session.machine(), session.stops(), &mut before.words)?;
-    note_sights(session.machine(), watches, &mut before.sights)
+    note_sights(alloc, session.machine(), watches, &mut before.sights)
 }
 
 /// Makes one step, where all that is watched is noted.
 fn step_noted<'a, M: ExpressionMachine>(
     alloc: Global,
     direction: Direction,
-    watches: &[FrameWatch],
+    watches: &[Watch],
     before: &Before,
     conditions: &mut Conditions,
     session: &mut Session<M>,
 ) -> Option<MoveEnd<'a>>
     ensures { (s : Setting) (d : Debugger) → StandsFor M.stands session.old s d → noted before.now.words.items ≡ watch_words (now s d) d.stops
-        → sights_view before.now.sights.items ≡ map (sight s d) watches.now
+        → sights_view before.now.sights.items ≡ map (seen s d) watches.now
         → StepsOnce M.stands s direction watches.now d (table_of conditions.old) result session.new (table_of conditions.new) }
 {
     let answer = session.do_command(direction.step());
     if !is_here(&answer) {
         return Some(MoveEnd::Answered(answer));
     }
-    match ask_each(alloc, watches, before, conditions, session) {
+    let mut here = Vec::new(alloc);
+    match note_sights(alloc, session.machine(), watches, &mut here) {
+        Ok(()) => end_here(
+            alloc, direction, watches, before, &here, conditions, session,
+        ),
+        Err(_) => Some(MoveEnd::Answered(Answer::Refused(Refusal::Memory))),
+    }
+}
+
+/// What ends a move behind a step, where all that is watched is noted before it and behind it.
+fn end_here<'a, M: ExpressionMachine>(
+    alloc: Global,
+    direction: Direction,
+    watches: &[Watch],
+    before: &Before,
+    here: &Sights,
+    conditions: &mut Conditions,
+    session: &Session<M>,
+) -> Option<MoveEnd<'a>>
+    ensures { (s : Setting) (began d : Debugger) → StandsFor M.stands session.now s d → noted before.now.words.items ≡ watch_words (now s began) d.stops
+        → sights_view before.now.sights.items ≡ map (seen s began) watches.now → sights_view here.now.items ≡ map (seen s d) watches.now
+        → EndsHere s direction watches.now began d (table_of conditions.old) result (table_of conditions.new) }
+{
+    match ask_each(alloc, watches, before, here, conditions, session) {
         Some(counted) => Some(MoveEnd::Stopped(counted)),
         None => end_by(last_answer(direction, watches, session)),
     }
@@ -121,17 +145,18 @@ fn step_noted<'a, M: ExpressionMachine>(
 /// Asks all breakpoints and watches at which a step stopped: the first that counts.
 fn ask_each<M: ExpressionMachine>(
     alloc: Global,
-    watches: &[FrameWatch],
+    watches: &[Watch],
     before: &Before,
+    here: &Sights,
     conditions: &mut Conditions,
     session: &Session<M>,
 ) -> Option<CountedStop>
     ensures { (s : Setting) (began d : Debugger) → StandsFor M.stands session.now s d → noted before.now.words.items ≡ watch_words (now s began) d.stops
-        → sights_view before.now.sights.items ≡ map (sight s began) watches.now
+        → sights_view before.now.sights.items ≡ map (seen s began) watches.now → sights_view here.now.items ≡ map (seen s d) watches.now
         → Asks s d (spec.reasons_on s began d watches.now) (table_of conditions.old) result (table_of conditions.new) }
 {
     let stop = ask_all(alloc, &before.words, conditions, session);
-    let watch = ask_frames(alloc, watches, &before.sights, conditions, session);
+    let watch = ask_frames(alloc, watches, &before.sights, here, conditions, session);
     first_of(stop, watch)
 }
 
@@ -148,7 +173,7 @@ fn end_by<'a>(answer: Option<Answer<'a>>) -> Option<MoveEnd<'a>>
 /// The answer after a step where nothing counts, if it ends the move: the frame of a watch is not there, or no step is left.
 fn last_answer<'a, M: RecordedMachine>(
     direction: Direction,
-    watches: &[FrameWatch],
+    watches: &[Watch],
     session: &Session<M>,
 ) -> Option<Answer<'a>>
     ensures { (s : Setting) (d : Debugger) → StandsFor M.stands session.now s d → result ≡ spec.last_answer direction s d watches.now }
@@ -161,10 +186,10 @@ fn last_answer<'a, M: RecordedMachine>(
 }
 
 /// Whether the frame of a watch is not there, where there are so many.
-fn is_one_gone(watches: &[FrameWatch], depth: usize) -> bool
-    ensures { result ≡ list_any (is_gone depth) watches.now }
+fn is_one_gone(watches: &[Watch], depth: usize) -> bool
+    ensures { result ≡ list_any (is_away depth) watches.now }
 {
-    watches.iter().any(|watch| depth < watch.depth)
+    watches.iter().any(|watch| depth < watch.depth())
 }
 
 /// The answer where no step is left.

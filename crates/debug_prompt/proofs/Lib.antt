@@ -3,3 +3,5 @@ mod WorkedLines
 mod WorkedLists
 mod WorkedNumbers
 mod NoCommands
+pub mod PrintedTargets
+pub mod UnsetCommands

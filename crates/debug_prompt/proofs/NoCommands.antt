@@ -7,7 +7,7 @@ use Rattle.conditional_stops.specs.Tables.{is_nothing}
 use Rattle.debug_session.specs.declared.session.Session.{Session}
 use Rattle.debug_session.specs.Sessions.{StandsFor}
 use Rattle.prompt_scenes.specs.Holding.{Held}
-use Rattle.prompt_going.specs.GoingOn.{DoesOwn, DoesTyped, walks_by, way_by}
+use Rattle.prompt_going.specs.GoingOn.{DoesOwn, DoesTyped, walks_by}
 
 -- it goes neither way
 neither : (b : Bool) (none : Option Direction) → (if b then none else none) ≡ none

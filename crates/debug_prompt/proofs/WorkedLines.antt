@@ -9,7 +9,8 @@ use Rattle.debug_answers.specs.declared.stops.Stop.TheVariants as stop
 use Rattle.prompt_lines.specs.declared.line.Kind.TheVariants as kind
 use Rattle.prompt_lines.specs.Sources.{Sheet}
 use Rattle.conditional_stops.specs.declared.going.Direction.TheVariants as direction
-use Rattle.conditional_stops.specs.declared.sights.FrameWatch.{FrameWatch}
+use Rattle.conditional_stops.specs.declared.watches.Watch.{Watch}
+use Rattle.conditional_stops.specs.declared.watches.Watch.TheVariants as watch
 use Rattle.conditional_stops.specs.Tables.{Table, nothing}
 use Rattle.conditional_stops.specs.Watching.{is_watch}
 use Rattle.prompt_scenes.specs.Readings.{changes_named}
@@ -20,7 +21,7 @@ use Rattle.prompt_scenes.specs.declared.holding.LastMove.TheVariants as last
 use Rattle.prompt_moves.specs.Following.{begun, follows}
 use Rattle.prompt_moves.specs.Moments.{all_back, at_first, is_unset, is_whole, to_moment}
 use Rattle.prompt_moves.specs.Pieces.{at_breakpoint, continued}
-use Rattle.prompt_stops.specs.Breaking.{numbered, watched_as}
+use Rattle.prompt_stops.specs.Breaking.{means_at, numbered, spot_of, text_watched, watched_as, written_in}
 use Rattle.prompt_past.specs.FramePast.{is_kept, is_later}
 use Rattle.prompt_going.specs.GoingOn.{walks_by, way_by}
 use Rattle.debug_prompt.specs.Doing.{commands_of, held_after, kept_after}
@@ -206,8 +207,22 @@ file_watch_row s d target = refl
 number_row : (s : Setting) (d : Debugger) (target : Target) → watched_as s d held_at_start target (Some (id.Local 4)) ≡ numbered s d
 number_row s d target = refl
 
-in_depth : ℕ → ℕ → FrameWatch
-in_depth number deep = record { number = number; depth = deep; id = id.Local 4; at = None; name = record { items = codes "v" } }
+-- what a line watches that names no target; nothing of a word alone, or of one with a condition alone
+expression_row_of_watch : written_in (codes "watch  table[i]  > 3  if k > 1") ≡ Some (codes "table[i]  > 3")
+expression_row_of_watch = refl
+
+watch_alone_row : written_in (codes "watch  ") ≡ None
+watch_alone_row = refl
+
+watch_if_row : written_in (codes "watch  if k > 1") ≡ None
+watch_if_row = refl
+
+-- where the frame that is selected stands at no step, nothing is watched
+no_step_row : (s : Setting) (d : Debugger) (text : List ℕ) → spot_of s d held_at_start ≡ None → text_watched s d held_at_start (Some text) ≡ []
+no_step_row s d text none = ap (λ spot. if means_at s.program text spot then numbered s d else []) none
+
+in_depth : ℕ → ℕ → Watch
+in_depth number deep = watch.Variable (record { number = number; depth = deep; id = id.Local 4; at = None; name = record { items = codes "v" } })
 
 -- watch 3 is of the entry's frame, and watch 5, which has a condition, of one that it called
 watching : Held

@@ -4,7 +4,8 @@ use Rattle.std.specs.Prelude.{◌^◌, None, Some, codes}
 use Rattle.gang_types.specs.declared.places.VarId.TheVariants as id
 use Rattle.gang_model.specs.Debugger.Debugger.{Debugger, DoContinue, DoDelete, Line, Setting}
 use Rattle.conditional_stops.specs.declared.going.Direction.TheVariants as direction
-use Rattle.conditional_stops.specs.declared.sights.FrameWatch.{FrameWatch}
+use Rattle.conditional_stops.specs.declared.watches.Watch.{Watch}
+use Rattle.conditional_stops.specs.declared.watches.Watch.TheVariants as watch
 use Rattle.conditional_stops.specs.Tables.{nothing}
 use Rattle.prompt_lines.specs.Sources.{Sheet}
 use Rattle.prompt_scenes.specs.Holding.{Held, held_at_start, nothing_kept}
@@ -14,8 +15,8 @@ use Rattle.debug_prompt.specs.Doing.{commands_of, held_after}
 source : Sheet
 source = record { name = codes "go.ispc"; text = codes "export void go() {}" }
 
-of_frame : ℕ → FrameWatch
-of_frame number = record { number = number; depth = 1; id = id.Local 4; at = None; name = record { items = codes "v" } }
+of_frame : ℕ → Watch
+of_frame number = watch.Variable (record { number = number; depth = 1; id = id.Local 4; at = None; name = record { items = codes "v" } })
 
 -- breakpoints 1, 2 and 4 are there, of which 2 has a condition, and the watch 5 of a frame
 there : Debugger

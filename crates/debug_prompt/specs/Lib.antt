@@ -2,3 +2,5 @@ pub mod Printing
 pub mod Doing
 pub mod Lines
 pub mod Taking
+pub mod Listing
+pub mod Written

@@ -1,5 +1,5 @@
 -- What is done for a line, where conditions or counts are there or something is disabled, and where none is. With none it is a list of
--- commands (`commands_of`). With some, `continue`, `reverse-continue` and `run` go on to a breakpoint or watch that counts, and how often a command is done for
+-- commands (`commands_of`), but that there may be no memory to read an expression that is to be watched. With some, `continue`, `reverse-continue` and `run` go on to a breakpoint or watch that counts, and how often a command is done for
 -- that depends on what the conditions come to.
 use Rattle.std.specs.Prelude.{◌≡◌, ℕ, ◌||◌, Bool, true, false, not, List, min, Option, Some, None, option_map}
 use Rattle.gang_model.specs.Debugger.Debugger.{Debugger, Setting, Target, depth, now}
@@ -7,6 +7,7 @@ use Rattle.gang_model.specs.Texts.CommandText.{command_of}
 use Rattle.debug_session.specs.declared.session.Session.{Session}
 use Rattle.debug_session.specs.Sessions.{StandsFor}
 use Rattle.conditional_stops.specs.Tables.{is_nothing}
+use Rattle.prompt_lines.specs.Conditions.{before_if, condition_in}
 use Rattle.prompt_lines.specs.declared.line.Kind.{Kind}
 use Rattle.prompt_lines.specs.Sources.{Sheet}
 use Rattle.prompt_lines.specs.Words.{Spelled, is_alone}
@@ -16,6 +17,7 @@ use Rattle.prompt_scenes.specs.Readings.{watch_of}
 use Rattle.prompt_scenes.specs.FrameWatches.{ended, known, local_named}
 use Rattle.prompt_scenes.specs.Holding.{Held}
 use Rattle.prompt_moves.specs.Moments.{is_whole}
+use Rattle.prompt_stops.specs.Breaking.{Watches, written_in}
 use Rattle.prompt_going.specs.GoingOn.{Does, DoesTyped, Runs, walks_by}
 use Rattle.debug_prompt.specs.Doing.{changed_by, commands_by, meant}
 
@@ -28,6 +30,8 @@ DoesRun stands sheet s d h text false session new = Runs stands s d h.has_begun 
 abbrev pub DoesKind : {M : Type 0} → (M → Setting → Debugger → Type 0) → Kind → Sheet → Setting → Debugger → Held → (text : List ℕ) → Session M → Held → Type 0
 DoesKind stands kind.Own sheet s d h text session new = DoesTyped stands s d h (command_of text) (walks_by h (command_of text)) session new
 DoesKind stands kind.Run sheet s d h text session new = DoesRun stands sheet s d h text (is_nothing h.table || not (is_alone text)) session new
+DoesKind stands kind.Watch sheet s d h text session new =
+    Watches stands s d h (watch_of (command_of (before_if text))) (written_in text) (condition_in text) session new
 DoesKind stands other sheet s d h text session new = Does stands s d (commands_by other sheet s d h text) (changed_by other sheet s d h text) session new
 
 -- the depth of the frame that is selected, where a target names a variable of it

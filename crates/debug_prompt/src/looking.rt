@@ -1,5 +1,5 @@
 //! What is looked at: the debugger does nothing.
-ghost use Rattle.std.specs.Prelude.{◌≡◌};
+ghost use Rattle.std.specs.Prelude.{◌≡◌, None};
 ghost use Rattle.gang_model.specs.Debugger.Debugger.{Debugger, Setting};
 ghost use Rattle.gang_model.specs.Texts.CommandText.{command_of};
 ghost use Rattle.debug_session.specs.Sessions.{StandsFor};
@@ -7,17 +7,21 @@ ghost use Rattle.prompt_lines.specs.declared.line.Kind.TheVariants as kind;
 ghost use Rattle.prompt_scenes.specs.Holding.{held, sheet};
 ghost use Rattle.prompt_scenes.specs.Readings as readings;
 ghost use Rattle.prompt_scenes.specs.SelectedFrame as selection;
+ghost use Rattle.prompt_lines.specs.Readings.{bytes_option};
+ghost use Rattle.prompt_texts.specs.Shown.{Puts};
 ghost use Rattle.debug_prompt.specs.Doing as spec;
+ghost use Rattle.debug_prompt.specs.Listing as listing;
 
 use crate::copies_told::tell_copies;
-use crate::listing::{Lines, Listed, lines_of};
-use crate::settings::show_layout;
+use crate::listing::{Listed, lines_meant, place};
+use crate::settings::{USUAL_LINES, lines_named, show_layout};
 use debug_answers::{NumberedStop, Stop};
 use debug_commands::read_command;
 use debug_session::Session;
 use debug_traits::{AnswerWriter, FramedMachine, RecordedMachine};
 use debug_words::is_blank_line;
-use prompt_lines::{Kind, Look, PromptLine, is_alone};
+use frame_expressions::ExpressionMachine;
+use prompt_lines::{Kind, Look, PromptLine, argument, is_alone};
 use prompt_moves::show_checkpoints;
 use prompt_scenes::{
     Holding, ListedLine, Scene, delete_of, frame_above, frame_below, frame_named, is_move, line_of,
@@ -29,7 +33,7 @@ use prompt_texts::{
     show_help, show_here, show_line, show_lists, show_locals, show_recording, show_source,
     show_text, show_type, show_variables, show_watches, tell_unknown,
 };
-use prompt_values::{form_of, tell_watch_conditions};
+use prompt_values::{form_of, show_functions, tell_watch_conditions};
 use whole_runs::TellsCopies;
 
 /// Why there is no frame below.
@@ -41,24 +45,32 @@ const TOP: &[u8] = b"Initial frame selected; you can't go up.\n";
 /// The word before a text that is written.
 const ECHO: &[u8] = b"echo";
 
-/// From which line on and up to which one the source was listed last, and whether the history was ever full.
+/// From which line on and up to which one the source was listed last, how many lines are listed at once, and whether the history was ever
+/// full.
 #[derive(Drop)]
 pub(crate) struct Looking {
     listed: Option<Listed>,
+    lines: u32,
     was_full: bool,
 }
 
 impl Looking {
-    /// Nothing was listed, and the history is not full.
-    pub(crate) fn new() -> Self {
+    /// Nothing was listed, ten lines are listed at once, and the history is not full.
+    pub(crate) fn new() -> Self
+        ensures lines { result.lines ≡ 10 }
+        ensures listed { result.listed ≡ None }
+    {
         Looking {
             listed: None,
+            lines: USUAL_LINES,
             was_full: false,
         }
     }
 
     /// Notes what a line led to: behind a move, or in another frame, the lines around the place are listed first.
-    pub(crate) fn note<M: RecordedMachine>(&mut self, line: &PromptLine, session: &Session<M>) {
+    pub(crate) fn note<M: RecordedMachine>(&mut self, line: &PromptLine, session: &Session<M>)
+        ensures { self.new.lines ≡ self.old.lines }
+    {
         if may_move(line) {
             self.listed = None;
         }
@@ -68,7 +80,7 @@ impl Looking {
     }
 
     /// Shows what is looked at, and selects a frame. A look that repeats by an empty line names no line.
-    pub(crate) fn look<M: FramedMachine + TellsCopies, O: AnswerWriter + Drop>(
+    pub(crate) fn look<M: ExpressionMachine + TellsCopies, O: AnswerWriter + Drop>(
         &mut self,
         look: Look,
         text: &[u8],
@@ -78,20 +90,25 @@ impl Looking {
         session: &Session<M>,
         page: &mut Page<O>,
     )
-        ensures { (s : Setting) (d : Debugger) → StandsFor M.stands session.now s d
+        ensures held { (s : Setting) (d : Debugger) → StandsFor M.stands session.now s d
             → held holding.new ≡ spec.changed_by (kind.Look look) (sheet scene.entry.source) s d (held holding.old) text.now }
+        ensures lines { self.new.lines ≡ listing.size_behind look self.old.lines text.now }
+        ensures written { (s : Setting) (d : Debugger) → StandsFor M.stands session.now s d
+            → listing.WritesLook (λ text. Puts text page.old.has_failed page.new.has_failed (O.written page.old.writer) (O.written page.new.writer)) s d look (sheet scene.entry.source) is_again (held holding.old).frame self.old.lines text.now self.old.listed self.new.listed }
     {
         match look {
             Look::Frame => go_to(frame_named(holding, text), holding, scene, session, page),
             Look::Up => go_up(text, holding, scene, session, page),
             Look::Down => go_down(text, holding, scene, session, page),
             Look::List => self.list(text, is_again, holding, scene, session, page),
+            Look::ListSize => self.set_lines(text, scene, page),
             Look::Recording => self.show_recording(text, scene, session, page),
             Look::Frames | Look::Full | Look::Here | Look::Line | Look::Source => look_at_program(
                 look, text, scene, session, page,
             ),
             Look::Watches => look_at_watches(scene.listed, holding, session, page),
-            Look::Layout => show_layout(text, scene, page),
+            Look::Layout => show_layout(text, self.lines, scene, page),
+            Look::Functions => list_functions(text, scene, session, page),
             Look::Checkpoints => show_checkpoints(holding, page),
             Look::Type | Look::Locals | Look::Arguments | Look::Variables | Look::Displays => {
                 look_at_values(look, text, holding, scene, session, page);
@@ -100,7 +117,7 @@ impl Looking {
         }
     }
 
-    /// Lists lines.
+    /// Lists the lines that a line names, if it names some.
     fn list<M: RecordedMachine, O: AnswerWriter + Drop>(
         &mut self,
         text: &[u8],
@@ -109,19 +126,36 @@ impl Looking {
         scene: Scene<'_>,
         session: &Session<M>,
         page: &mut Page<O>,
-    ) {
-        let named = if is_again {
-            Some(Lines::Next)
-        } else {
-            lines_of(text, scene.source)
-        };
-        let Some(lines) = named else {
-            tell_unknown(scene.line, page);
-            return;
-        };
-        let listed = lines.after(self.listed, holding.frame(), session);
-        list_lines(listed.first, listed.next, scene.source, session, page);
-        self.listed = Some(listed);
+    )
+        ensures listed { (s : Setting) (d : Debugger) → StandsFor M.stands session.now s d
+            → listing.ListsNamed (λ text. Puts text page.old.has_failed page.new.has_failed (O.written page.old.writer) (O.written page.new.writer)) s d (sheet scene.entry.source) (held holding.now).frame self.old.lines (listing.lines_meant is_again self.old.lines (sheet scene.entry.source) text.now) self.old.listed self.new.listed }
+        ensures lines { self.new.lines ≡ self.old.lines }
+    {
+        match lines_meant(is_again, text, self.lines, scene.source) {
+            Some(lines) => {
+                let here = place(holding.frame(), session);
+                let listed = lines.after(self.listed, self.lines, here);
+                list_lines(listed.first, listed.next, scene.source, session, page);
+                self.listed = Some(listed);
+            }
+            None => tell_unknown(scene.line, page),
+        }
+    }
+
+    /// Lists so many lines at once from now on, as a command line names.
+    fn set_lines<O: AnswerWriter + Drop>(
+        &mut self,
+        text: &[u8],
+        scene: Scene<'_>,
+        page: &mut Page<O>,
+    )
+        ensures lines { self.new.lines ≡ listing.size_after self.old.lines text.now }
+        ensures listed { self.new.listed ≡ self.old.listed }
+    {
+        match lines_named(text) {
+            Some(lines) => self.lines = lines,
+            None => tell_unknown(scene.line, page),
+        }
     }
 
     /// Shows how much can be taken back, and what copies are kept for it.
@@ -224,6 +258,33 @@ fn go_down<M: RecordedMachine, O: AnswerWriter + Drop>(
         page.put(BOTTOM);
     } else {
         go_to(number, holding, scene, session, page);
+    }
+}
+
+/// Lists the functions of the program whose names have a part, if one word alone follows.
+fn list_functions<M: ExpressionMachine, O: AnswerWriter + Drop>(
+    text: &[u8],
+    scene: Scene<'_>,
+    session: &Session<M>,
+    page: &mut Page<O>,
+)
+    ensures { (s : Setting) (d : Debugger) → StandsFor M.stands session.now s d
+        → listing.ListsFunctions (λ lines. Puts lines page.old.has_failed page.new.has_failed (O.written page.old.writer) (O.written page.new.writer)) text.now scene.entry.source.text.now s.program }
+{
+    match part_of(text) {
+        Some(part) => show_functions(part, scene.source, session.machine(), page),
+        None => tell_unknown(scene.line, page),
+    }
+}
+
+/// The part that names are to have: what stands behind the first word, nothing behind a word alone.
+fn part_of(text: &[u8]) -> Option<&[u8]>
+    ensures { bytes_option result ≡ listing.part_of text.now }
+{
+    if is_alone(text) {
+        Some(&[])
+    } else {
+        argument(text)
     }
 }
 

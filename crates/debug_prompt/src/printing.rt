@@ -1,5 +1,5 @@
 //! Values that are printed, set and displayed, in the frame that is selected.
-ghost use Rattle.std.specs.Prelude.{◌≡◌, ◌==◌, ◌∷◌, [], Some, if◌then◌else◌};
+ghost use Rattle.std.specs.Prelude.{◌≡◌, ◌==◌, ◌∷◌, [], Some, drop, if◌then◌else◌};
 ghost use Rattle.gang_model.specs.Debugger.Debugger.{Debugger, DoPrint, DoSet, Setting, do_command, now};
 ghost use Rattle.gang_model.specs.Texts.CommandText.{command_of};
 ghost use Rattle.command_lists.specs.Lists.{HasDone};
@@ -11,7 +11,12 @@ ghost use Rattle.prompt_scenes.specs.Holding.{held};
 ghost use Rattle.prompt_scenes.specs.Readings as readings;
 ghost use Rattle.prompt_scenes.specs.SelectedFrame as selection;
 ghost use Rattle.prompt_moves.specs.Following as following;
+ghost use Rattle.prompt_texts.specs.declared.forms.Digits.TheVariants as in_digits;
+ghost use Rattle.prompt_texts.specs.Shown.{Puts};
+ghost use Rattle.prompt_values.specs.FormsPrinted.{IsWrittenOf};
+ghost use Rattle.prompt_values.specs.Numbered.{kept};
 ghost use Rattle.debug_prompt.specs.Printing as printing;
+ghost use Rattle.debug_prompt.specs.Written as written;
 
 use debug_commands::{Command, Target, read_command};
 use debug_session::Session;
@@ -20,12 +25,12 @@ use frame_expressions::ExpressionMachine;
 use prompt_lines::{HELD, is_alone, setting_line};
 use prompt_moves::show_displays;
 use prompt_scenes::{
-    Holding, Scene, delete_of, find_part, is_shown, may_set, print_of, selected_depth,
+    Holding, Scene, delete_of, find_part, is_shown, may_set, print_of, selected_depth, sets,
 };
 use prompt_texts::{Digits, Page, tell_refused, tell_unknown};
 use prompt_values::{
-    Printed, Values, do_and_show, print_answer, print_expression, print_shown, show_form,
-    show_formatted, show_instead, value_instead,
+    Printed, Values, do_and_show, print_answer, print_expression, print_instead, print_shown,
+    show_form, show_formatted, value_instead,
 };
 
 /// Why a local variable of an outer frame is not set.
@@ -42,13 +47,14 @@ pub(crate) fn print<M: ExpressionMachine, O: AnswerWriter + Drop>(
     session: &mut Session<M>,
     page: &mut Page<O>,
 ) -> Option<Printed>
-    ensures { (s : Setting) (d : Debugger) → StandsFor M.stands session.old s d
+    ensures done { (s : Setting) (d : Debugger) → StandsFor M.stands session.old s d
         → HasDone M.stands s (printing.printed_or_set s d (held holding.now) (readings.print_of (command_of text.now)) (command_of (setting_text text.now))) d session.new }
+    ensures written { (s : Setting) (d : Debugger) → StandsFor M.stands session.old s d
+        → written.WritesPrint (λ line. Puts line page.old.has_failed page.new.has_failed (O.written page.old.writer) (O.written page.new.writer)) (readings.print_of (command_of text.now)) (readings.sets (command_of (setting_text text.now))) text.now (kept values.now) result }
 {
-    if let Some(target) = print_of(text) {
-        print_named(target, text, holding, scene, session, page)
-    } else {
-        set_or_print(text, values, holding, scene, session, page)
+    match print_of(text) {
+        Some(target) => print_named(target, text, holding, scene, session, page),
+        None => set_or_print(text, values, holding, scene, session, page),
     }
 }
 
@@ -61,16 +67,20 @@ fn print_named<M: ExpressionMachine, O: AnswerWriter + Drop>(
     session: &mut Session<M>,
     page: &mut Page<O>,
 ) -> Option<Printed>
-    ensures { (s : Setting) (d : Debugger) → StandsFor M.stands session.old s d
+    ensures done { (s : Setting) (d : Debugger) → StandsFor M.stands session.old s d
         → HasDone M.stands s (selection.in_top (held holding.now) (DoPrint (target_view target.entry) ∷ [])) d session.new }
+    ensures written { (s : Setting) (d : Debugger) → StandsFor M.stands session.old s d
+        → IsWrittenOf (λ line. Puts line page.old.has_failed page.new.has_failed (O.written page.old.writer) (O.written page.new.writer)) (Some (target_view target.entry)) (drop 5 text.now) in_digits.Decimal result }
 {
-    if let Some(value) = value_instead(target.name, text, holding, scene, session) {
-        print_silently(target, holding, session);
-        show_instead(&value, text, page);
-        Some(Printed::Expression(value))
-    } else {
-        let (_, printed) = print_target(target, holding, scene, session, page);
-        printed
+    match value_instead(target.name, text, holding, scene, session) {
+        Some(value) => {
+            print_silently(target, holding, session);
+            print_instead(value, text, page)
+        }
+        None => {
+            let (_, printed) = print_target(target, holding, scene, session, page);
+            printed
+        }
     }
 }
 
@@ -97,15 +107,15 @@ fn set_or_print<M: ExpressionMachine, O: AnswerWriter + Drop>(
     session: &mut Session<M>,
     page: &mut Page<O>,
 ) -> Option<Printed>
-    ensures { (s : Setting) (d : Debugger) → StandsFor M.stands session.old s d
+    ensures done { (s : Setting) (d : Debugger) → StandsFor M.stands session.old s d
         → HasDone M.stands s (printing.set_by s d (held holding.now) (command_of (setting_text text.now))) d session.new }
+    ensures written { written.WritesUnlessSet (readings.sets (command_of (setting_text text.now))) (λ line. Puts line page.old.has_failed page.new.has_failed (O.written page.old.writer) (O.written page.new.writer)) text.now (kept values.now) result }
 {
-    match read_command(setting_line(text).as_slice()) {
-        Some(Command::Set { target, value }) => {
-            set_target(target, value, holding, scene, session, page);
-            None
-        }
-        _ => print_expression(text, values, holding, scene, session, page),
+    if sets(text) {
+        set_spelled(setting_line(text).as_slice(), holding, scene, session, page);
+        None
+    } else {
+        print_expression(text, values, holding, scene, session, page)
     }
 }
 
@@ -117,9 +127,11 @@ fn print_target<M: FramedMachine, O: AnswerWriter + Drop>(
     session: &mut Session<M>,
     page: &mut Page<O>,
 ) -> (bool, Option<Printed>)
-    ensures { (s : Setting) (d : Debugger) → StandsFor M.stands session.old s d
+    ensures done { (s : Setting) (d : Debugger) → StandsFor M.stands session.old s d
         → HasDone M.stands s (selection.in_top (held holding.now) (DoPrint (target_view target.entry) ∷ [])) d session.new
         × (result.0 ≡ selection.shows s d (held holding.now) (target_view target.entry)) }
+    ensures written { (s : Setting) (d : Debugger) → StandsFor M.stands session.old s d
+        → written.WritesTarget (λ line. Puts line page.old.has_failed page.new.has_failed (O.written page.old.writer) (O.written page.new.writer)) (target_view target.entry) result.1 }
 {
     if holding.is_top() {
         print_here(target, scene, session, page)
@@ -136,9 +148,11 @@ fn print_here<M: FramedMachine, O: AnswerWriter + Drop>(
     session: &mut Session<M>,
     page: &mut Page<O>,
 ) -> (bool, Option<Printed>)
-    ensures { (s : Setting) (d : Debugger) → StandsFor M.stands session.old s d
+    ensures done { (s : Setting) (d : Debugger) → StandsFor M.stands session.old s d
         → HasDone M.stands s (DoPrint (target_view target.entry) ∷ []) d session.new
         × (result.0 ≡ readings.is_shown (do_command s (DoPrint (target_view target.entry)) d).answer) }
+    ensures written { (s : Setting) (d : Debugger) → StandsFor M.stands session.old s d
+        → written.WritesTarget (λ line. Puts line page.old.has_failed page.new.has_failed (O.written page.old.writer) (O.written page.new.writer)) (target_view target.entry) result.1 }
 {
     let answer = session.do_command(Command::Print(target));
     let printed = print_answer(&answer, scene, session, page);
@@ -153,8 +167,9 @@ fn print_at<M: FramedMachine, O: AnswerWriter + Drop>(
     session: &Session<M>,
     page: &mut Page<O>,
 ) -> (bool, Option<Printed>)
-    ensures { (s : Setting) (d : Debugger) → StandsFor M.stands session.now s d
+    ensures shown { (s : Setting) (d : Debugger) → StandsFor M.stands session.now s d
         → result.0 ≡ selection.can_show s d depth (target_view target.entry) (found_at s.program depth (now s d) (target_view target.entry).name) }
+    ensures written { written.WritesTarget (λ line. Puts line page.old.has_failed page.new.has_failed (O.written page.old.writer) (O.written page.new.writer)) (target_view target.entry) result.1 }
 {
     match find_part(target, depth, session.machine()) {
         Ok(shown) => {

@@ -1,5 +1,5 @@
 //! `run`, and the debugger's own words.
-ghost use Rattle.std.specs.Prelude.{◌≡◌, ◌||◌, not};
+ghost use Rattle.std.specs.Prelude.{◌≡◌, ◌||◌, None, not};
 ghost use Rattle.gang_model.specs.Debugger.Debugger.{Debugger, Setting};
 ghost use Rattle.gang_model.specs.Texts.CommandText.{command_of};
 ghost use Rattle.conditional_stops.specs.Tables as tables;
@@ -7,14 +7,17 @@ ghost use Rattle.debug_session.specs.Sessions.{StandsFor};
 ghost use Rattle.prompt_lines.specs.Words.{is_alone};
 ghost use Rattle.prompt_scenes.specs.Holding.{held, sheet};
 ghost use Rattle.prompt_going.specs.GoingOn as going_on;
+ghost use Rattle.prompt_texts.specs.Shown.{Puts};
+ghost use Rattle.prompt_values.specs.Numbered.{kept};
 ghost use Rattle.debug_prompt.specs.Lines as lines;
+ghost use Rattle.debug_prompt.specs.Written as written;
 
 use debug_commands::read_command;
 use debug_session::Session;
 use debug_traits::AnswerWriter;
 use frame_expressions::ExpressionMachine;
 use prompt_going::{begin_run, do_typed};
-use prompt_lines::{index, is_alone, split_word};
+use prompt_lines::{index, is_alone, split_word, stripped};
 use prompt_moves::run;
 use prompt_scenes::{Holding, Scene};
 use prompt_texts::{Page, tell_unknown};
@@ -48,8 +51,9 @@ pub(crate) fn do_own_words<M: ExpressionMachine, O: AnswerWriter + Drop>(
     session: &mut Session<M>,
     page: &mut Page<O>,
 )
-    ensures { (s : Setting) (d : Debugger) → StandsFor M.stands session.old s d → s.limit ≡ scene.entry.most_steps
+    ensures done { (s : Setting) (d : Debugger) → StandsFor M.stands session.old s d → s.limit ≡ scene.entry.most_steps
         → going_on.DoesTyped M.stands s d (held holding.old) (command_of text.now) (going_on.walks_by (held holding.old) (command_of text.now)) session.new (held holding.new) }
+    ensures listed { command_of text.now ≡ None → written.ListsValues (λ line. Puts line page.old.has_failed page.new.has_failed (O.written page.old.writer) (O.written page.new.writer)) text.now (kept values.now) }
 {
     match read_command(text) {
         Some(_) => do_typed(text, holding, scene, session, page),
@@ -63,7 +67,9 @@ fn list_values<O: AnswerWriter + Drop>(
     values: &Values,
     scene: Scene<'_>,
     page: &mut Page<O>,
-) {
+)
+    ensures { written.ListsValues (λ line. Puts line page.old.has_failed page.new.has_failed (O.written page.old.writer) (O.written page.new.writer)) text.now (kept values.now) }
+{
     match values_asked(text) {
         Some(number) => values.list(number, page),
         None => tell_unknown(scene.line, page),
@@ -71,14 +77,27 @@ fn list_values<O: AnswerWriter + Drop>(
 }
 
 /// Around which number `show values` lists, if a command line is that: the last ones where none is named.
-fn values_asked(text: &[u8]) -> Option<Option<u32>> {
+fn values_asked(text: &[u8]) -> Option<Option<u32>>
+    ensures { result ≡ written.values_asked text.now }
+{
     let (show, rest) = split_word(text);
     let (values, rest) = split_word(rest);
-    if show != b"show".as_slice() || values != b"values".as_slice() {
-        return None;
+    if show == b"show".as_slice() && values == b"values".as_slice() {
+        around_named(stripped(rest))
+    } else {
+        None
     }
-    match rest.trim_ascii() {
+}
+
+/// Around which number values are listed: none where no number stands there.
+fn around_named(text: &[u8]) -> Option<Option<u32>>
+    ensures { result ≡ written.around_named text.now }
+{
+    match text {
         [] => Some(None),
-        number => Some(Some(index(number)?)),
+        number => match index(number) {
+            Some(number) => Some(Some(number)),
+            None => None,
+        },
     }
 }

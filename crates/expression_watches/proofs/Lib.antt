@@ -1,4 +1,5 @@
 mod FewerLanes
 mod LaneLists
 mod Rows
+mod SetTexts
 mod Texts

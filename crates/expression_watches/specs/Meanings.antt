@@ -1,5 +1,5 @@
 -- What the text of an expression means at a step of a program, where its names stand for what they stood for at another one.
-use Rattle.std.specs.Prelude.{◌≡◌, ℕ, nat_lt, List, [], length, Option, Some, None, option_map, if◌then◌else◌, Vec}
+use Rattle.std.specs.Prelude.{◌≡◌, ⊤, ℕ, Bool, false, nat_lt, List, [], length, Option, Some, None, is_some, option_map, if◌then◌else◌, Vec}
 use Rattle.std.specs.Result.{result_ok}
 use Rattle.std.specs.Global.{Global}
 use Rattle.gang_types.specs.declared.places.Spot.{Spot}
@@ -17,6 +17,9 @@ use Rattle.ispc_lexer.specs.Source.{lexed}
 use Rattle.ispc_parser_expressions.specs.Parse.{whole_expr}
 use Rattle.typed_tree.specs.Views.{expr_view}
 use Rattle.frame_expressions.specs.Meanings.{Means, entries_at}
+use Rattle.placed_expressions.specs.declared.answers.ExpressionRefusal.{ExpressionRefusal}
+use Rattle.placed_expressions.specs.declared.answers.ExpressionRefusal.TheVariants as refusal
+use Rattle.placed_expressions.specs.Refusals.{IsRefused}
 use Rattle.expression_watches.specs.Names.{same_names}
 
 -- the tokens of a text, if it has any
@@ -50,6 +53,15 @@ meaning_by p set_at spot (Some tokens) = if same_names p set_at spot tokens then
 -- the same of a text
 abbrev pub meaning_at : Program → (set_at spot : Spot) → (text : List ℕ) → Option Expr
 meaning_at p set_at spot text = meaning_by p set_at spot (tokens_of text)
+
+-- whether it means something at a step where it is set
+abbrev pub is_meant : Program → Spot → (text : List ℕ) → Bool
+is_meant p spot text = is_some (meaning_at p spot spot text)
+
+-- a text is refused at a step: it means nothing there, for the reason that is told; or memory ran out
+abbrev pub IsDenied : (text : List ℕ) → Program → Spot → ExpressionRefusal → Type 0
+IsDenied text p spot refusal.Memory = ⊤
+IsDenied text p spot why = (is_meant p spot text ≡ false) × IsRefused text p spot why
 
 -- ---- code
 

@@ -174,7 +174,7 @@ const FURTHER: [Reason; 14] = [
 ];
 
 /// The words behind `info`.
-const LISTS: [Reason; 5] = [
+const LISTS: [Reason; 4] = [
     Reason(
         &[b"registers", b"all-registers", b"reg"],
         b"There are no registers: `info locals`, `info args` and `print T` show variables.",
@@ -182,10 +182,6 @@ const LISTS: [Reason; 5] = [
     Reason(
         &[b"threads", b"inferiors"],
         b"There are no threads: the gang's lanes run together, and the marks behind a place show which are active.",
-    ),
-    Reason(
-        &[b"functions"],
-        b"The functions are not listed: `list NAME` shows one, `break NAME` stops in it, and `list` goes through the source.",
     ),
     Reason(
         &[b"types", b"symbol", b"scope", b"address"],
@@ -217,7 +213,7 @@ const SETTINGS: [Reason; 3] = [
     ),
     Reason(
         &[b"listsize"],
-        b"`list` shows ten lines; `list 3,40` shows others.",
+        b"A number may follow `set listsize`, of the lines that `list` shows: 1 to 1000, or `unlimited`.",
     ),
 ];
 

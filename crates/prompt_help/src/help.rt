@@ -128,7 +128,7 @@ const OTHERS: [Topic; 21] = [
     Topic {
         names: &[b"watch"],
         usage: b"watch T [if E]",
-        text: b"stops where a variable, a lane or an element of it has changed, also going back; one of a function while its frame is there.",
+        text: b"stops where a variable, a lane or an element of it, or the value of an expression has changed, also going back; one of a function and an expression while its frame is there.",
     },
     Topic {
         names: &[b"condition"],
@@ -163,7 +163,7 @@ const OTHERS: [Topic; 21] = [
     Topic {
         names: &[b"info", b"i"],
         usage: b"info WHAT",
-        text: b"lists: breakpoints, watchpoints, locals, args, variables, display, frame, stack, lanes, record, source, line [N], program.",
+        text: b"lists: breakpoints, watchpoints, locals, args, variables, functions [TEXT], display, frame, stack, lanes, record, source, line [N], program.",
     },
     Topic {
         names: &[b"backtrace", b"bt", b"where"],
@@ -188,7 +188,7 @@ const OTHERS: [Topic; 21] = [
     Topic {
         names: &[b"list", b"l"],
         usage: b"list [N]",
-        text: b"shows ten lines of the source, around line N or where the program stands; again shows the next ones. `list 3,9`, `list -` and `list NAME` show others.",
+        text: b"shows ten lines of the source, around line N or where the program stands; again shows the next ones. `list 3,9`, `list -` and `list NAME` show others, and `set listsize N` shows N at once.",
     },
     Topic {
         names: &[b"whatis", b"ptype"],

@@ -86,7 +86,7 @@ const OTHERS: [Reason; 18] = [
     ),
     Reason(
         &[b"watch"],
-        b"A variable is watched, or a lane or an element of it by its number, as `watch total` and `watch table[3]`, and no other expression; one of a function while its frame is there. `if EXPRESSION` may stand behind it.",
+        b"A variable is watched, or a lane or an element of it by its number, as `watch total` and `watch table[3]`, or an expression, as `watch total > 9`; one of a function and an expression while its frame is there. `if EXPRESSION` may stand behind it.",
     ),
     Reason(
         &[b"delete", b"d", b"del"],
@@ -102,7 +102,7 @@ const OTHERS: [Reason; 18] = [
     ),
     Reason(
         &[b"info", b"i"],
-        b"`info` lists: breakpoints, watchpoints, locals, args, variables, display, frame, stack, lanes, record, source, line [N], program.",
+        b"`info` lists: breakpoints, watchpoints, locals, args, variables, functions [TEXT], display, frame, stack, lanes, record, source, line [N], program.",
     ),
     Reason(
         &[b"backtrace", b"bt", b"where"],

@@ -2,4 +2,5 @@ mod HeldTexts
 pub mod Prefixes
 mod Rows
 mod WorkedLines
+mod WorkedHeads
 mod Places

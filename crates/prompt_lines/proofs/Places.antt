@@ -1,9 +1,9 @@
 -- What is counted before a place, one place after another.
-use Rattle.std.proofs.Common.{◌≡◌, ◌<◌, ◌≤◌, ◌+◌, ◌-◌, ℕ, suc, zero, List, [], ◌∷◌, ◌++◌, Bool, true, false, Option, Some, length, take, get_or, refl, sym, ap, ◌∙◌, inl, inr, arith}
+use Rattle.std.proofs.Common.{◌≡◌, ◌<◌, ◌≤◌, ◌+◌, ◌-◌, ℕ, suc, List, [], ◌∷◌, Bool, true, false, Some, length, get_or, refl, sym, ap, ◌∙◌, inl, inr, arith}
 use Rattle.std.proofs.lemmas.Bool.{cases_Bool, true≢false}
 use Rattle.std.proofs.lemmas.List.{length-drop}
 use Rattle.std.proofs.lemmas.List.Sums.{count_by_more_no, count_by_more_yes}
-use Rattle.std.specs.Prelude.{◌==◌, ◌&&◌, codes, count_by, drop, nat_eq, None, if◌then◌else◌}
+use Rattle.std.specs.Prelude.{◌==◌, ◌&&◌, codes, drop, None, if◌then◌else◌}
 use Rattle.gang_model.specs.Texts.Spellings.{behind}
 use Rattle.prompt_lines.specs.Conditions.{begins, is_if}
 use Rattle.prompt_lines.specs.Sources.{begins_word, count_before, first_place}

@@ -5,7 +5,8 @@ use Rattle.prompt_lines.specs.declared.line.Kind.TheVariants as kind
 use Rattle.prompt_lines.specs.declared.line.Look.TheVariants as look
 use Rattle.prompt_lines.specs.Conditions.{before_if, behind_first, condition_in, first_word}
 use Rattle.prompt_lines.specs.Numbers.{are_numbers, names_number, range_of}
-use Rattle.prompt_lines.specs.Words.{line_of, moment_of}
+use Rattle.prompt_lines.specs.Lines.{line_of}
+use Rattle.prompt_lines.specs.Words.{moment_of}
 
 temporary_row : line_of (codes "tbreak 5") ≡ record { kind = kind.Temporary; text = codes "break  5" }
 temporary_row = refl
@@ -51,7 +52,7 @@ list_row = refl
 look_row : line_of (codes "up 2") ≡ record { kind = kind.Look look.Up; text = codes "step  2" }
 look_row = refl
 
-short_row : line_of (codes "i line 9") ≡ record { kind = kind.Look look.Line; text = codes "break  9" }
+short_row : line_of (codes "i line 9") ≡ record { kind = kind.Look look.Line; text = codes "break 9" }
 short_row = refl
 
 goto_row : line_of (codes "goto 4711") ≡ record { kind = kind.Goto; text = codes "goto  4711" }
@@ -84,6 +85,46 @@ longer_row = refl
 
 blank_row : line_of (codes "  ") ≡ record { kind = kind.Again; text = [] }
 blank_row = refl
+
+-- ---- fronts
+
+front_row : line_of (codes "disp x") ≡ record { kind = kind.Display; text = codes "print x" }
+front_row = refl
+
+-- of two commands with one front the first one
+first_front_row : line_of (codes "con") ≡ record { kind = kind.Own; text = codes "continue " }
+first_front_row = refl
+
+second_front_row : line_of (codes "cond 1 x") ≡ record { kind = kind.Condition; text = codes " 1 x" }
+second_front_row = refl
+
+-- two letters are too few, and a longer word is no front
+two_letters_row : line_of (codes "ne 2") ≡ record { kind = kind.Own; text = codes "ne 2" }
+two_letters_row = refl
+
+longer_front_row : line_of (codes "nexts") ≡ record { kind = kind.Own; text = codes "nexts" }
+longer_front_row = refl
+
+-- no shorter front of these moves the program
+reverse_row : line_of (codes "rev") ≡ record { kind = kind.Own; text = codes "reverse- " }
+reverse_row = refl
+
+-- what `info` lists by one letter, by more, and behind a front of `info`
+list_letter_row : line_of (codes "i l") ≡ record { kind = kind.Look look.Locals; text = codes " " }
+list_letter_row = refl
+
+list_front_row : line_of (codes "info wat") ≡ record { kind = kind.Look look.Watches; text = codes " " }
+list_front_row = refl
+
+info_front_row : line_of (codes "inf line 9") ≡ record { kind = kind.Look look.Line; text = codes "break 9" }
+info_front_row = refl
+
+-- registers are none of the record
+registers_row : line_of (codes "i r") ≡ record { kind = kind.Look look.Lists; text = codes " " }
+registers_row = refl
+
+no_list_row : line_of (codes "info xyz") ≡ record { kind = kind.Look look.Lists; text = codes "  xyz" }
+no_list_row = refl
 
 -- ---- conditions
 
@@ -165,3 +206,17 @@ are_not_row = refl
 
 too_long_row : are_numbers (codes "delete " ++ replicate 250 49) ≡ false
 too_long_row = refl
+
+-- ---- functions
+
+functions_row : line_of (codes "info functions tw") ≡ record { kind = kind.Look look.Functions; text = codes "functions tw" }
+functions_row = refl
+
+short_functions_row : line_of (codes "i functions") ≡ record { kind = kind.Look look.Functions; text = codes "functions " }
+short_functions_row = refl
+
+list_size_row : line_of (codes "show listsize") ≡ record { kind = kind.Look look.Layout; text = codes "listsize " }
+list_size_row = refl
+
+set_list_size_row : line_of (codes "set listsize 20") ≡ record { kind = kind.Look look.ListSize; text = codes "listsize  20" }
+set_list_size_row = refl

@@ -2,5 +2,8 @@ pub mod Words
 pub mod Parts
 pub mod Readings
 pub mod Sources
+pub mod Heads
 pub mod Conditions
 pub mod Numbers
+pub mod Fronts
+pub mod Lines

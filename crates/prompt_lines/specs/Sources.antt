@@ -50,9 +50,13 @@ first_place test (suc count) from = if test from then Some from else first_place
 abbrev pub line_at : List ℕ → (place : ℕ) → ℕ
 line_at text place = suc (count_before 10 text place)
 
--- the line on which a function of a name is declared first, if 32 bits hold it
+-- the place at which a function of a name is declared first
+abbrev pub function_place : (text name : List ℕ) → Option ℕ
+function_place text name = first_place (declares text name) (length text) 0
+
+-- the line of this, if 32 bits hold it
 abbrev pub function_line : (text name : List ℕ) → Option ℕ
-function_line text name = in_range 0 4294967295 (option_map (line_at text) (first_place (declares text name) (length text) 0))
+function_line text name = in_range 0 4294967295 (option_map (line_at text) (function_place text name))
 
 -- the line of a breakpoint that a command makes
 abbrev pub break_of : Option Command → Option ℕ

@@ -1,8 +1,7 @@
--- How the lines are read that people type: each stands for a command line of the debugger, and a kind says what is done with it
--- (GDB manual; which words there are, and what they stand for, are choices of this project).
+-- The words that people type: each stands for words of the debugger, and a kind says what is done with them (GDB manual; which words there
+-- are, and what they stand for, are choices of this project).
 use Rattle.std.specs.Prelude.{ℕ, Bool, true, false, ◌||◌, List, [], ◌∷◌, ◌++◌, drop, take, Option, Some, None, option_and_then, codes, if◌then◌else◌}
 use Rattle.std.specs.List.{prefix_len}
-use Rattle.std.specs.Option.{option_or}
 use Rattle.gang_model.specs.Texts.Spellings.{Word, behind, decimal_number, in_range, is_blank, words_of_line}
 use Rattle.gang_model.specs.Texts.CommandText.{is_mark}
 use Rattle.prompt_lines.specs.declared.line.Kind.{Kind}
@@ -54,6 +53,7 @@ rows =
     ∷ row (codes "set" ∷ codes "variable" ∷ []) kind.Set (codes "set var")
     ∷ row (codes "set" ∷ codes "record" ∷ codes "full" ∷ codes "insn-number-max" ∷ codes "unlimited" ∷ []) kind.Own (codes "set record full insn-number-max 65536")
     ∷ row (codes "set" ∷ codes "record" ∷ []) kind.Own (codes "set record")
+    ∷ row (codes "set" ∷ codes "listsize" ∷ []) (kind.Look look.ListSize) (codes "listsize")
     ∷ row (codes "set" ∷ []) kind.Set (codes "set var")
     ∷ row (codes "stepi" ∷ []) kind.Own (codes "step")
     ∷ row (codes "si" ∷ []) kind.Own (codes "step")
@@ -104,11 +104,6 @@ rows =
     ∷ row (codes "ignore" ∷ []) kind.Ignore []
     ∷ row (codes "display" ∷ []) kind.Display (codes "print")
     ∷ row (codes "display/d" ∷ []) kind.Display (codes "print")
-    ∷ row (codes "info" ∷ codes "b" ∷ []) kind.Own (codes "info breakpoints")
-    ∷ row (codes "info" ∷ codes "break" ∷ []) kind.Own (codes "info breakpoints")
-    ∷ row (codes "i" ∷ codes "b" ∷ []) kind.Own (codes "info breakpoints")
-    ∷ row (codes "i" ∷ codes "breakpoints" ∷ []) kind.Own (codes "info breakpoints")
-    ∷ row (codes "info" ∷ codes "breakpoints" ∷ []) kind.Own (codes "info breakpoints")
     ∷ row (codes "exit" ∷ []) kind.Own (codes "quit")
     ∷ row (codes "goto" ∷ []) kind.Goto (codes "goto")
     ∷ row (codes "last" ∷ []) kind.Last (codes "watch")
@@ -127,50 +122,22 @@ looks =
     ∷ row (codes "backtrace" ∷ []) (kind.Look look.Frames) (codes "delete")
     ∷ row (codes "bt" ∷ []) (kind.Look look.Frames) (codes "delete")
     ∷ row (codes "where" ∷ []) (kind.Look look.Frames) (codes "delete")
-    ∷ row (codes "info" ∷ codes "stack" ∷ []) (kind.Look look.Frames) (codes "delete")
-    ∷ row (codes "info" ∷ codes "s" ∷ []) (kind.Look look.Frames) (codes "delete")
-    ∷ row (codes "i" ∷ codes "stack" ∷ []) (kind.Look look.Frames) (codes "delete")
-    ∷ row (codes "i" ∷ codes "s" ∷ []) (kind.Look look.Frames) (codes "delete")
     ∷ row (codes "list" ∷ []) (kind.Look look.List) (codes "break")
     ∷ row (codes "l" ∷ []) (kind.Look look.List) (codes "break")
     ∷ row (codes "frame" ∷ []) (kind.Look look.Frame) (codes "frame")
     ∷ row (codes "f" ∷ []) (kind.Look look.Frame) (codes "frame")
-    ∷ row (codes "info" ∷ codes "frame" ∷ []) (kind.Look look.Frame) (codes "frame")
-    ∷ row (codes "i" ∷ codes "frame" ∷ []) (kind.Look look.Frame) (codes "frame")
-    ∷ row (codes "i" ∷ codes "f" ∷ []) (kind.Look look.Frame) (codes "frame")
     ∷ row (codes "up" ∷ []) (kind.Look look.Up) (codes "step")
     ∷ row (codes "down" ∷ []) (kind.Look look.Down) (codes "step")
     ∷ row (codes "whatis" ∷ []) (kind.Look look.Type) (codes "print")
     ∷ row (codes "ptype" ∷ []) (kind.Look look.Type) (codes "print")
-    ∷ row (codes "info" ∷ codes "locals" ∷ []) (kind.Look look.Locals) []
-    ∷ row (codes "i" ∷ codes "locals" ∷ []) (kind.Look look.Locals) []
-    ∷ row (codes "info" ∷ codes "args" ∷ []) (kind.Look look.Arguments) []
-    ∷ row (codes "i" ∷ codes "args" ∷ []) (kind.Look look.Arguments) []
-    ∷ row (codes "info" ∷ codes "variables" ∷ []) (kind.Look look.Variables) []
-    ∷ row (codes "i" ∷ codes "variables" ∷ []) (kind.Look look.Variables) []
-    ∷ row (codes "info" ∷ codes "display" ∷ []) (kind.Look look.Displays) []
-    ∷ row (codes "i" ∷ codes "display" ∷ []) (kind.Look look.Displays) []
-    ∷ row (codes "info" ∷ codes "checkpoints" ∷ []) (kind.Look look.Checkpoints) []
-    ∷ row (codes "i" ∷ codes "checkpoints" ∷ []) (kind.Look look.Checkpoints) []
-    ∷ row (codes "info" ∷ codes "record" ∷ []) (kind.Look look.Recording) []
-    ∷ row (codes "i" ∷ codes "record" ∷ []) (kind.Look look.Recording) []
     ∷ row (codes "record" ∷ []) (kind.Look look.Recording) []
-    ∷ row (codes "info" ∷ codes "watchpoints" ∷ []) (kind.Look look.Watches) []
-    ∷ row (codes "i" ∷ codes "watchpoints" ∷ []) (kind.Look look.Watches) []
-    ∷ row (codes "info" ∷ codes "source" ∷ []) (kind.Look look.Source) []
-    ∷ row (codes "i" ∷ codes "source" ∷ []) (kind.Look look.Source) []
-    ∷ row (codes "info" ∷ codes "line" ∷ []) (kind.Look look.Line) (codes "break")
-    ∷ row (codes "i" ∷ codes "line" ∷ []) (kind.Look look.Line) (codes "break")
-    ∷ row (codes "info" ∷ codes "program" ∷ []) (kind.Look look.Here) []
-    ∷ row (codes "i" ∷ codes "program" ∷ []) (kind.Look look.Here) []
-    ∷ row (codes "info" ∷ codes "lanes" ∷ []) kind.Lanes (codes "lanes")
-    ∷ row (codes "i" ∷ codes "lanes" ∷ []) kind.Lanes (codes "lanes")
     ∷ row (codes "info" ∷ []) (kind.Look look.Lists) []
     ∷ row (codes "i" ∷ []) (kind.Look look.Lists) []
     ∷ row (codes "help" ∷ []) (kind.Look look.Help) []
     ∷ row (codes "h" ∷ []) (kind.Look look.Help) []
     ∷ row (codes "echo" ∷ []) (kind.Look look.Text) []
     ∷ row (codes "show" ∷ codes "print" ∷ []) (kind.Look look.Layout) []
+    ∷ row (codes "show" ∷ codes "listsize" ∷ []) (kind.Look look.Layout) (codes "listsize")
     ∷ row (codes "p/x" ∷ []) kind.Formatted (codes "print/x")
     ∷ row (codes "print/x" ∷ []) kind.Formatted (codes "print/x")
     ∷ row (codes "p/t" ∷ []) kind.Formatted (codes "print/t")
@@ -225,29 +192,6 @@ row_or (Some rest) row other = Some (record { kind = row.kind; text = held_text 
 abbrev pub found_by : List Row → List ℕ → Option Spelled
 found_by [] text = None
 found_by (row ∷ rows) text = row_or (behind_words row.words text) row (found_by rows text)
-
--- a text by the tables, else the debugger's own words
-abbrev pub own_or : Option Spelled → List ℕ → Spelled
-own_or None text = record { kind = kind.Own; text = held_text text }
-own_or (Some line) text = line
-
--- a text by the tables of what is done and what is looked at, else the debugger's own words
-abbrev pub done_or_own : List ℕ → Spelled
-done_or_own text = own_or (option_or (found_by rows text) (found_by looks text)) text
-
--- a text with a letter behind a blank, else one that is read by the other tables
-abbrev pub letters_or : Option Spelled → List ℕ → Spelled
-letters_or None text = done_or_own text
-letters_or (Some line) text = line
-
--- a text that has no blank at its beginning
-abbrev pub text_spelled : List ℕ → Spelled
-text_spelled [] = record { kind = kind.Again; text = [] }
-text_spelled (byte ∷ bytes) = letters_or (found_by letters (byte ∷ bytes)) (byte ∷ bytes)
-
--- what a line stands for, its LF not included
-abbrev pub line_of : List ℕ → Spelled
-line_of line = text_spelled (unblanked line)
 
 -- one word alone
 abbrev pub is_one : List Word → Bool

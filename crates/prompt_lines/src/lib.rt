@@ -2,6 +2,8 @@
 #![tactic(auto)]
 
 mod conditions;
+mod fronts;
+mod heads;
 mod line;
 mod numbers;
 mod parts;
@@ -10,6 +12,7 @@ mod sources;
 mod table;
 
 pub use conditions::{before_condition, condition_in, split_word};
+pub use heads::{Head, function_head, has_part, stripped};
 pub use line::{HELD, Kind, Look, PromptLine, Text};
 pub use numbers::{NumberRange, are_numbers, behind_first, names_number, range_of};
 pub use parts::count_place;

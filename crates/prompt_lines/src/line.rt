@@ -12,6 +12,8 @@ pub type Text = ArrayVec<u8, HELD>;
 pub enum Look {
     /// Lines of the source.
     List,
+    /// How many lines are listed at once, from now on.
+    ListSize,
     /// The frames.
     Frames,
     /// The frames with their variables.
@@ -30,6 +32,8 @@ pub enum Look {
     Arguments,
     /// The variables of the file.
     Variables,
+    /// The functions of the program.
+    Functions,
     /// What is displayed after each move.
     Displays,
     /// The moments that were noted.
@@ -50,7 +54,7 @@ pub enum Look {
     Help,
     /// A text.
     Text,
-    /// How much of an array is told.
+    /// How much of an array is told, and how many lines are listed.
     Layout,
 }
 

@@ -4,9 +4,11 @@ ghost use Rattle.std.specs.List.{prefix_len};
 ghost use Rattle.gang_model.specs.Texts.CommandText as text;
 ghost use Rattle.gang_model.specs.Texts.Spellings as spelling;
 ghost use Rattle.debug_commands.specs.LineWords.{texts};
+ghost use Rattle.prompt_lines.specs.Lines as lines;
 ghost use Rattle.prompt_lines.specs.Readings.{bytes_option, row_view, spelled, spelled_option};
 ghost use Rattle.prompt_lines.specs.Words as spec;
 
+use crate::fronts::{begun, listed};
 use crate::line::{HELD, Kind, PromptLine, Text};
 use crate::table::{LETTERS, LOOKS, ROWS, Row};
 use debug_words::{Marks, Radix, digits_number, is_blank, next_word};
@@ -22,7 +24,7 @@ const MOST_STEPS: u128 = 4_611_686_018_427_387_904;
 
 /// What a line stands for, its line feed not included. It takes no memory and never fails.
 pub fn read_line(line: &[u8]) -> PromptLine
-    ensures { spelled result ≡ spec.line_of line.now }
+    ensures { spelled result ≡ lines.line_of line.now }
 {
     let text = unblanked(line);
     if text.is_empty() {
@@ -37,26 +39,46 @@ pub fn read_line(line: &[u8]) -> PromptLine
     }
 }
 
-/// What is done, else what is looked at or the debugger's own words.
+/// What is done, else what is looked at, else the debugger's own words.
 fn done_or_own(text: &[u8]) -> PromptLine
-    ensures { spelled result ≡ spec.done_or_own text.now }
+    ensures { spelled result ≡ lines.done_or_own text.now }
 {
     match found_by(&ROWS, text) {
         Some(line) => line,
-        None => look_or_own(text),
+        None => own_or(list_or_look(text), text),
     }
 }
 
-/// What is looked at, else the debugger's own words.
-fn look_or_own(text: &[u8]) -> PromptLine
-    ensures { spelled result ≡ spec.own_or (spec.found_by spec.looks text.now) text.now }
+/// A text as it was found, else the debugger's own words.
+fn own_or(found: Option<PromptLine>, text: &[u8]) -> PromptLine
+    ensures { spelled result ≡ lines.own_or (spelled_option found) text.now }
 {
-    match found_by(&LOOKS, text) {
+    match found {
         Some(line) => line,
         None => PromptLine {
             kind: Kind::Own,
             text: held_line(text),
         },
+    }
+}
+
+/// What `info` lists, else what is looked at.
+fn list_or_look(text: &[u8]) -> Option<PromptLine>
+    ensures { spelled_option result ≡ lines.list_or_look text.now }
+{
+    match listed(text) {
+        Some(line) => Some(line),
+        None => look_or_begun(text),
+    }
+}
+
+/// What is looked at, else what begins with a front of a command.
+fn look_or_begun(text: &[u8]) -> Option<PromptLine>
+    ensures { spelled_option result ≡ lines.look_or_begun text.now }
+{
+    match found_by(&LOOKS, text) {
+        Some(line) => Some(line),
+        None => begun(text),
     }
 }
 
@@ -137,7 +159,7 @@ pub fn held_line(text: &[u8]) -> Text
 }
 
 /// Words, a blank, and what follows them, as far as they are held.
-fn joined(own: &[u8], rest: &[u8]) -> Text
+pub(crate) fn joined(own: &[u8], rest: &[u8]) -> Text
     ensures { result.items ≡ spec.held_text (own.now ++ 32 ∷ rest.now) }
 {
     let mut held = held_line(own);

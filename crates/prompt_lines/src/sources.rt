@@ -1,5 +1,5 @@
 //! The lines of a source that people name.
-ghost use Rattle.std.specs.Prelude.{◌≡◌, ◌≤◌, ◌<◌, ◌==◌, ◌&&◌, length, get_or, Some, if◌then◌else◌};
+ghost use Rattle.std.specs.Prelude.{◌≡◌, ◌≤◌, ◌<◌, ◌==◌, ◌&&◌, length, get_or, Some, IfSome, if◌then◌else◌};
 ghost use Rattle.gang_model.specs.Texts.CommandText.{command_of};
 ghost use Rattle.gang_model.specs.Texts.Spellings.{in_range};
 ghost use Rattle.prompt_lines.specs.Readings.{bytes_option};
@@ -61,18 +61,35 @@ fn behind_file<'a>(word: &'a [u8], name: &[u8]) -> Option<&'a [u8]>
 fn function_line(text: &[u8], name: &[u8]) -> Option<u32>
     ensures { result ≡ spec.function_line text.now name.now }
 {
+    match function_place(text, name) {
+        Some(place) => in_words(line_at(text, place)),
+        None => None,
+    }
+}
+
+/// The place at which a function of a name is declared first, outside all braces.
+pub(crate) fn function_place(text: &[u8], name: &[u8]) -> Option<usize>
+    ensures place { result ≡ spec.function_place text.now name.now }
+    ensures within { IfSome result (λ place. place < length text.now) }
+{
     let mut opened = 0usize;
     let mut closed = 0usize;
-    let mut line = 1usize;
     for place in 0..text.len() {
         if declares(text, place, name, opened, closed) {
-            return in_words(line);
+            return Some(place);
         }
         opened += count_at(text, place, b'{');
         closed += count_at(text, place, b'}');
-        line += count_at(text, place, b'\n');
     }
     None
+}
+
+/// The line of a place.
+pub(crate) fn line_at(text: &[u8], place: usize) -> usize
+    requires { place < length text.now }
+    ensures { result ≡ spec.line_at text.now place }
+{
+    text[..place].iter().filter(|byte| **byte == b'\n').count() + 1
 }
 
 /// Whether a function of a name is declared at a place that so many opened and closed braces stand before.

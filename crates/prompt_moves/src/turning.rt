@@ -38,8 +38,34 @@ pub fn do_own<M: ExpressionMachine, O: AnswerWriter + Drop>(
     if is_move(command) {
         do_move(command, holding, scene, session, page);
     } else {
-        do_alone(command, scene, session, page);
+        do_beside(command, holding, scene, session, page);
     }
+}
+
+/// Does a command that does not move, and tells what it came to, but not that no breakpoint or watch is listed where frames are watched.
+fn do_beside<M: RecordedMachine, O: AnswerWriter + Drop>(
+    command: Command<'_>,
+    holding: &Holding,
+    scene: Scene<'_>,
+    session: &mut Session<M>,
+    page: &mut Page<O>,
+)
+    ensures { (s : Setting) (d : Debugger) → StandsFor M.stands session.old s d
+        → HasDone M.stands s (command_view command.entry ∷ []) d session.new }
+{
+    let answer = session.do_command(command);
+    if !lists_frames_alone(&answer, holding, session) {
+        tell(&answer, scene.line, scene.source, session, page);
+    }
+}
+
+/// Whether a list of breakpoints and watches has none but those of frames.
+fn lists_frames_alone<M: RecordedMachine>(
+    answer: &Answer<'_>,
+    holding: &Holding,
+    session: &Session<M>,
+) -> bool {
+    matches!(answer, Answer::ListsStops) && session.stops().is_empty() && holding.has_frames()
 }
 
 /// Does a command that does not move, and tells what it came to.

@@ -1,4 +1,4 @@
--- Watches of variables of frames, as lines make them and end them.
+-- Watches of what frames show, as lines make them and end them.
 use Rattle.std.specs.Prelude.{ℕ, ◌==◌, ◌&&◌, Bool, true, false, not, nat_le, nat_lt, List, [], ◌∷◌, ◌++◌, filter, length, Option, Some, None, is_none, if◌then◌else◌}
 use Rattle.std.specs.List.{list_any}
 use Rattle.gang_types.specs.declared.places.VarId.{VarId}
@@ -8,8 +8,12 @@ use Rattle.gang_model.specs.Running.State.{State}
 use Rattle.gang_model.specs.Texts.CommandText.{command_of}
 use Rattle.gang_model.specs.Types.Tree.{Variable}
 use Rattle.debug_traits.specs.Frames.{found_at, state_at}
+use Rattle.expression_watches.specs.declared.sights.ExpressionWatch.{ExpressionWatch}
 use Rattle.conditional_stops.specs.declared.sights.FrameWatch.{FrameWatch}
+use Rattle.conditional_stops.specs.declared.watches.Watch.{Watch}
+use Rattle.conditional_stops.specs.declared.watches.Watch.TheVariants as watch
 use Rattle.conditional_stops.specs.Tables.{Table, without}
+use Rattle.conditional_stops.specs.Watches.{watch_depth, watch_number}
 use Rattle.prompt_lines.specs.declared.line.Kind.{Kind}
 use Rattle.prompt_lines.specs.Words.{is_alone}
 use Rattle.gang_types.specs.declared.places.VarId.TheVariants as id
@@ -40,7 +44,7 @@ local_named s d deep target = if_watched (state_at deep (now s d)) target (found
 
 -- whether a watch of a frame has a number
 abbrev pub is_frame : ℕ → Held → Bool
-is_frame number h = list_any (λ w. w.number == number) h.frames
+is_frame number h = list_any (λ w. watch_number w == number) h.frames
 
 -- a watch of a variable of the frame at a depth
 abbrev pub part_watch : ℕ → Target → (depth : ℕ) → VarId → FrameWatch
@@ -50,13 +54,18 @@ part_watch number target deep v = record { number = number; depth = deep; id = v
 abbrev pub with_frame : Option ℕ → Target → (depth : ℕ) → VarId → Held → Held
 with_frame None target deep v h = h
 with_frame (Some number) target deep v h =
-    if nat_lt (length h.frames) 16 && nat_le (length target.name) 256 then record h { frames = h.frames ++ part_watch number target deep v ∷ [] } else h
+    if nat_lt (length h.frames) 16 && nat_le (length target.name) 256 then record h { frames = h.frames ++ watch.Variable (part_watch number target deep v) ∷ [] } else h
+
+-- a watch of an expression that was made is there from now on, where fewer than 16 are
+abbrev pub with_expression : Option ExpressionWatch → Held → Held
+with_expression None h = h
+with_expression (Some w) h = if nat_lt (length h.frames) 16 then record h { frames = h.frames ++ watch.Expression w ∷ [] } else h
 
 -- what was deleted is watched no more: one watch, or all
 abbrev pub without_frames : Option (Option ℕ) → Held → Held
 without_frames None h = h
 without_frames (Some None) h = record h { frames = [] }
-without_frames (Some (Some n)) h = record h { frames = filter (λ w. not (w.number == n)) h.frames }
+without_frames (Some (Some n)) h = record h { frames = filter (λ w. not (watch_number w == n)) h.frames }
 
 -- ---- which of them end with a line
 
@@ -84,14 +93,14 @@ known kind.Last text deep = 1
 known other text deep = deep
 
 -- what was said of a watch is forgotten, where it is deeper
-abbrev pub forgotten_if : (known : ℕ) → FrameWatch → Table → Table
-forgotten_if deepest w table = if nat_lt deepest w.depth then without w.number table else table
+abbrev pub forgotten_if : (known : ℕ) → Watch → Table → Table
+forgotten_if deepest w table = if nat_lt deepest (watch_depth w) then without (watch_number w) table else table
 
 -- the same of each
-abbrev pub forgotten_deeper : (known : ℕ) → List FrameWatch → Table → Table
+abbrev pub forgotten_deeper : (known : ℕ) → List Watch → Table → Table
 forgotten_deeper deepest [] table = table
 forgotten_deeper deepest (w ∷ watches) table = forgotten_deeper deepest watches (forgotten_if deepest w table)
 
 -- the watches of frames that are deeper end
 abbrev pub ended : (known : ℕ) → Held → Held
-ended deepest h = record h { frames = filter (λ w. nat_le w.depth deepest) h.frames; table = forgotten_deeper deepest h.frames h.table }
+ended deepest h = record h { frames = filter (λ w. nat_le (watch_depth w) deepest) h.frames; table = forgotten_deeper deepest h.frames h.table }

@@ -3,7 +3,7 @@ use Rattle.std.specs.Prelude.{ℕ, Bool, false, List, [], map}
 use Rattle.prompt_lines.specs.Sources.{Sheet}
 use Rattle.prompt_lines.specs.Words.{Spelled}
 use Rattle.prompt_texts.specs.declared.source.Source.{Source}
-use Rattle.conditional_stops.specs.declared.sights.FrameWatch.{FrameWatch}
+use Rattle.conditional_stops.specs.declared.watches.Watch.{Watch}
 use Rattle.conditional_stops.specs.Tables.{Table, nothing}
 use Rattle.conditional_stops.specs.Views.{table_of}
 use Rattle.prompt_lines.specs.declared.line.Kind.TheVariants as kind
@@ -16,7 +16,7 @@ use Rattle.prompt_scenes.specs.declared.holding.Holding as declared
 -- the numbers of the last breakpoints that go when they have stopped a move; what is displayed after each move, by its number and
 -- its command line; the next such number; whether the program has begun, by a move or by `run`; the number of the frame
 -- that is selected, the top one being number 0; the moments that were noted, each by its number and how many steps lead to it; the
--- next such number; the conditions and the counts of breakpoints and watches, and which are disabled; the watches of variables of frames;
+-- next such number; the conditions and the counts of breakpoints and watches, and which are disabled; the watches of what frames show;
 -- what stopped the last move
 pub record Held : Type 0 where
   pub temporaries : List ℕ
@@ -27,7 +27,7 @@ pub record Held : Type 0 where
   pub checkpoints : List (ℕ × ℕ)
   pub next_checkpoint : ℕ
   pub table : Table
-  pub frames : List FrameWatch
+  pub frames : List Watch
   pub last_move : LastMove
 
 -- what is held at the start

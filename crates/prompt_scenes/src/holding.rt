@@ -9,8 +9,9 @@ ghost use Rattle.prompt_scenes.specs.FrameWatches as frames;
 
 use crate::watching::forget_deeper;
 use arrayvec::ArrayVec;
-use conditional_stops::{Conditions, FrameWatch};
+use conditional_stops::{Conditions, FrameWatch, Watch};
 use debug_commands::Target;
+use expression_watches::ExpressionWatch;
 use gang_types::VarId;
 use prompt_lines::{Text, held_line};
 
@@ -20,7 +21,7 @@ const TEMPORARIES: usize = 64;
 /// How much may be displayed.
 const DISPLAYS: usize = 16;
 
-/// How many variables of frames may be watched.
+/// How much may be watched that frames show.
 const FRAMES: usize = 16;
 
 /// How many moments may be noted.
@@ -76,8 +77,8 @@ pub enum LastMove {
 }
 
 /// The numbers of the last temporary breakpoints, what is displayed, whether the program has begun, which frame is selected,
-/// the moments that were noted, the conditions and the counts of breakpoints and watches and which are disabled, the variables of
-/// frames that are watched, and what stopped the last move.
+/// the moments that were noted, the conditions and the counts of breakpoints and watches and which are disabled, what is watched that
+/// frames show, and what stopped the last move.
 #[derive(Drop)]
 pub struct Holding {
     temporaries: ArrayVec<u32, TEMPORARIES>,
@@ -88,7 +89,7 @@ pub struct Holding {
     checkpoints: ArrayVec<Checkpoint, CHECKPOINTS>,
     next_checkpoint: u32,
     pub conditions: Conditions,
-    pub frames: ArrayVec<FrameWatch, FRAMES>,
+    pub frames: ArrayVec<Watch, FRAMES>,
     last_move: LastMove,
 }
 
@@ -334,28 +335,28 @@ impl Holding {
         }
     }
 
-    /// Whether a variable of a frame is watched.
+    /// Whether it is watched what a frame shows.
     pub fn has_frames(&self) -> bool
         ensures { result ≡ not (length (held self.now).frames == 0) }
     {
         !self.frames.is_empty()
     }
 
-    /// Whether one more variable of a frame can be watched.
+    /// Whether one more watch of what a frame shows can be there.
     pub fn has_room(&self) -> bool
         ensures { result ≡ nat_lt (length (held self.now).frames) 16 }
     {
         !self.frames.is_full()
     }
 
-    /// Whether a variable of a frame is watched by a number.
+    /// Whether it is watched by a number what a frame shows.
     pub fn is_frame(&self, number: u32) -> bool
         ensures { result ≡ frames.is_frame number (held self.now) }
     {
         self.frames
             .as_slice()
             .iter()
-            .any(|watch| watch.number == number)
+            .any(|watch| watch.number() == number)
     }
 
     /// Watches a variable of a frame by a number, if one was found, where there is room.
@@ -369,23 +370,35 @@ impl Holding {
             return;
         };
         if !self.frames.is_full() {
-            self.frames.push(FrameWatch {
+            self.frames.push(Watch::Variable(FrameWatch {
                 number,
                 depth,
                 id,
                 at: target.at,
                 name,
-            });
+            }));
         }
     }
 
-    /// Watches what a line deleted no more: a variable of a frame, or all of them.
+    /// Watches an expression, if a watch of it was made, where there is room.
+    pub fn add_expression(&mut self, watch: Option<ExpressionWatch>)
+        ensures { held self.new ≡ frames.with_expression watch (held self.old) }
+    {
+        let Some(watch) = watch else {
+            return;
+        };
+        if !self.frames.is_full() {
+            self.frames.push(Watch::Expression(watch));
+        }
+    }
+
+    /// Watches what a line deleted no more: what a frame shows, or all of that.
     pub fn remove_frames(&mut self, deleted: Option<u32>)
         ensures { held self.new ≡ frames.without_frames (Some deleted) (held self.old) }
     {
         match deleted {
             None => self.frames.clear(),
-            Some(number) => self.frames.retain(|watch| watch.number != number),
+            Some(number) => self.frames.retain(|watch| watch.number() != number),
         }
     }
 
@@ -394,6 +407,6 @@ impl Holding {
         ensures { held self.new ≡ frames.ended known (held self.old) }
     {
         forget_deeper(self.frames.as_slice(), known, &mut self.conditions);
-        self.frames.retain(|watch| watch.depth <= known);
+        self.frames.retain(|watch| watch.depth() <= known);
     }
 }

@@ -6,7 +6,7 @@ ghost use Rattle.conditional_stops.specs.Views.{table_of};
 ghost use Rattle.debug_commands.specs.Views.{option_view, target_view};
 ghost use Rattle.prompt_scenes.specs.FrameWatches as frames;
 
-use conditional_stops::{Conditions, FrameWatch, LONGEST_NAME};
+use conditional_stops::{Conditions, LONGEST_NAME, Watch};
 use debug_commands::{Command, Target, read_command};
 use debug_traits::{FramedMachine, Shown};
 use gang_types::{Rate, VarId};
@@ -84,7 +84,7 @@ fn if_one(count: u32, depth: usize) -> usize
 }
 
 /// Forgets what was said of the watches that are deeper.
-pub(crate) fn forget_deeper(watches: &[FrameWatch], known: usize, conditions: &mut Conditions)
+pub(crate) fn forget_deeper(watches: &[Watch], known: usize, conditions: &mut Conditions)
     ensures { table_of conditions.new ≡ frames.forgotten_deeper known watches.now (table_of conditions.old) }
 {
     for watch in watches {
@@ -93,10 +93,10 @@ pub(crate) fn forget_deeper(watches: &[FrameWatch], known: usize, conditions: &m
 }
 
 /// Forgets what was said of a watch, where it is deeper.
-fn forget_if(watch: &FrameWatch, known: usize, conditions: &mut Conditions)
+fn forget_if(watch: &Watch, known: usize, conditions: &mut Conditions)
     ensures { table_of conditions.new ≡ frames.forgotten_if known watch.now (table_of conditions.old) }
 {
-    if known < watch.depth {
-        conditions.forget(watch.number);
+    if known < watch.depth() {
+        conditions.forget(watch.number());
     }
 }

@@ -1,13 +1,22 @@
 -- Breakpoints and watches, as lines make, change and delete them.
-use Rattle.std.specs.Prelude.{ℕ, Bool, false, nat_lt, List, [], ◌∷◌, ◌++◌, length, Option, Some, None, if◌then◌else◌}
-use Rattle.gang_model.specs.Debugger.Debugger.{Command, Debugger, DoBreak, DoDelete, DoWatch, Setting, Target, do_command}
+use Rattle.std.specs.Prelude.{◌≡◌, ℕ, ◌&&◌, Bool, false, true, nat_lt, List, [], ◌∷◌, ◌++◌, length, Option, Some, None, if◌then◌else◌}
+use Rattle.gang_types.specs.declared.places.Spot.{Spot}
 use Rattle.gang_types.specs.declared.places.VarId.{VarId}
+use Rattle.gang_model.specs.Debugger.Debugger.{Command, Debugger, DoBreak, DoDelete, DoWatch, Setting, Target, do_command, now}
+use Rattle.gang_model.specs.Types.Tree.{Program}
+use Rattle.debug_traits.specs.Frames.{spot_at}
+use Rattle.debug_session.specs.declared.session.Session.{Session}
+use Rattle.command_lists.specs.Lists.{HasDone}
+use Rattle.expression_watches.specs.declared.sights.ExpressionWatch.{ExpressionWatch}
+use Rattle.expression_watches.specs.Meanings.{is_meant}
+use Rattle.expression_watches.specs.Sights as expression
+use Rattle.prompt_lines.specs.Conditions.{before_if, behind_first}
 use Rattle.prompt_lines.specs.Numbers.{are_numbers}
 use Rattle.prompt_scenes.specs.Conditions.{forgotten_by, made_so}
-use Rattle.prompt_scenes.specs.FrameWatches.{is_frame, local_named, with_frame, without_frames}
+use Rattle.prompt_scenes.specs.FrameWatches.{is_frame, local_named, with_expression, with_frame, without_frames}
 use Rattle.prompt_scenes.specs.Holding.{Held}
 use Rattle.prompt_scenes.specs.SelectedFrame.{depth_of}
-use Rattle.prompt_scenes.specs.Readings.{made_number, watch_number}
+use Rattle.prompt_scenes.specs.Readings.{made_number, trimmed, watch_number}
 use Rattle.prompt_scenes.specs.Changes.{with_temporary}
 use Rattle.prompt_stops.specs.Numbers.{after_deleted, deleted_each, disabled_each, enabled_each, numbers_named}
 
@@ -49,14 +58,48 @@ cleared (Some n) = DoDelete (Some n) ∷ []
 abbrev pub numbered : Setting → Debugger → List Command
 numbered s d = DoBreak 1 ∷ cleared (made_number (do_command s (DoBreak 1) d).answer)
 
+-- the number that is taken, if one is left
+abbrev pub taken : Setting → Debugger → Option ℕ
+taken s d = made_number (do_command s (DoBreak 1) d).answer
+
+-- ---- what is watched
+
+-- the step at which the frame stands that is selected
+abbrev pub spot_of : Setting → Debugger → Held → Option Spot
+spot_of s d h = spot_at s.program (depth_of s d h) (now s d)
+
 -- a target is watched: a variable of the frame that is selected by a number that is taken, where there is room, and one of the file by the debugger
 abbrev pub watched_as : Setting → Debugger → Held → Target → (local : Option VarId) → List Command
 watched_as s d h target None = DoWatch target ∷ []
 watched_as s d h target (Some v) = if nat_lt (length h.frames) 16 then numbered s d else []
 
-abbrev pub watched : Setting → Debugger → Held → Option Target → List Command
-watched s d h None = []
-watched s d h (Some target) = watched_as s d h target (local_named s d (depth_of s d h) target)
+-- a text, if it has any byte
+abbrev pub if_any : List ℕ → Option (List ℕ)
+if_any [] = None
+if_any (byte ∷ bytes) = Some (byte ∷ bytes)
+
+-- what stands behind the first word of a command line and before its condition, without the blanks around it; nothing of one that was cut
+abbrev pub written_in : (text : List ℕ) → Option (List ℕ)
+written_in text = if nat_lt (length text) 257 then if_any (trimmed (behind_first (before_if text))) else None
+
+-- whether a text means an expression at a step, if there is one
+abbrev pub means_at : Program → (text : List ℕ) → Option Spot → Bool
+means_at p text None = false
+means_at p text (Some spot) = is_meant p spot text
+
+-- whether a text can be watched: it means an expression where the frame stands that is selected, and there is room
+abbrev pub can_watch : Setting → Debugger → Held → (text : List ℕ) → Bool
+can_watch s d h text = nat_lt (length h.frames) 16 && means_at s.program text (spot_of s d h)
+
+-- a text is watched by a number that is taken, where it can be
+abbrev pub text_watched : Setting → Debugger → Held → (text : Option (List ℕ)) → List Command
+text_watched s d h None = []
+text_watched s d h (Some text) = if can_watch s d h text then numbered s d else []
+
+-- a target is watched, or else a text
+abbrev pub watched : Setting → Debugger → Held → Option Target → (text : Option (List ℕ)) → List Command
+watched s d h None text = text_watched s d h text
+watched s d h (Some target) text = watched_as s d h target (local_named s d (depth_of s d h) target)
 
 -- a breakpoint on a line is to be temporary
 abbrev pub after_break : Setting → Debugger → Held → (line : Option ℕ) → Held
@@ -68,17 +111,36 @@ abbrev pub after_made : Setting → Debugger → Held → (line : Option ℕ) �
 after_made s d h None condition = h
 after_made s d h (Some n) condition = made_so (made_number (do_command s (DoBreak n) d).answer) condition h
 
+-- the watch of a text by a number, if one was found, in the frame at a depth, which stands at a step
+abbrev pub watch_made : (number : Option ℕ) → (depth : ℕ) → Option Spot → (text : List ℕ) → Option ExpressionWatch
+watch_made (Some number) deep (Some spot) text = expression.watch_of number deep spot text
+watch_made number deep spot text = None
+
 -- a watch that is made
 abbrev pub watched_then : Setting → Debugger → Held → Target → (local : Option VarId) → (condition : Option (List ℕ)) → Held
 watched_then s d h target None condition = made_so (watch_number (do_command s (DoWatch target) d).answer) condition h
 watched_then s d h target (Some v) condition =
     if nat_lt (length h.frames) 16
-    then made_so (made_number (do_command s (DoBreak 1) d).answer) condition (with_frame (made_number (do_command s (DoBreak 1) d).answer) target (depth_of s d h) v h)
-    else h
+    then made_so (taken s d) condition (with_frame (taken s d) target (depth_of s d h) v h) else h
 
-abbrev pub after_watch : Setting → Debugger → Held → Option Target → (condition : Option (List ℕ)) → Held
-after_watch s d h None condition = h
-after_watch s d h (Some target) condition = watched_then s d h target (local_named s d (depth_of s d h) target) condition
+abbrev pub text_watched_then : Setting → Debugger → Held → (text condition : Option (List ℕ)) → Held
+text_watched_then s d h None condition = h
+text_watched_then s d h (Some text) condition =
+    if can_watch s d h text then made_so (taken s d) condition (with_expression (watch_made (taken s d) (depth_of s d h) (spot_of s d h) text) h) else h
+
+abbrev pub after_watch : Setting → Debugger → Held → Option Target → (text condition : Option (List ℕ)) → Held
+after_watch s d h None text condition = text_watched_then s d h text condition
+after_watch s d h (Some target) text condition = watched_then s d h target (local_named s d (depth_of s d h) target) condition
+
+-- what a line that watches comes to: it is done as these say; or there was no memory to read the text, and nothing is done
+abbrev pub DoesWatch : {M : Type 0} → (M → Setting → Debugger → Type 0) → Setting → Debugger → Held → Option Target → (text condition : Option (List ℕ)) → (refused : Bool) → Session M → Held → Type 0
+DoesWatch stands s d h None text condition true session new = HasDone stands s [] d session × (new ≡ h)
+DoesWatch stands s d h target text condition refused session new = HasDone stands s (watched s d h target text) d session × (new ≡ after_watch s d h target text condition)
+
+-- one of them
+pub record Watches {M : Type 0} (stands : M → Setting → Debugger → Type 0) (s : Setting) (d : Debugger) (h : Held) (target : Option Target) (text condition : Option (List ℕ)) (session : Session M) (new : Held) : Type 0 where
+  pub refused : Bool
+  pub does : DoesWatch stands s d h target text condition refused session new
 
 -- what was deleted is forgotten: one, or all, or those that a line names
 abbrev pub after_named : Debugger → Held → (text : List ℕ) → Held

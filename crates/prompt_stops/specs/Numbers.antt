@@ -1,6 +1,7 @@
 -- Breakpoints and watches that a line names by their numbers: they are deleted, disabled or enabled, one after another.
 use Rattle.std.specs.Prelude.{ℕ, List, [], ◌∷◌, ◌++◌, filter, map, take, Some}
 use Rattle.gang_model.specs.Debugger.Debugger.{Debugger}
+use Rattle.conditional_stops.specs.Watches.{watch_number}
 use Rattle.prompt_lines.specs.Numbers.{names_number}
 use Rattle.prompt_scenes.specs.Conditions.{forgotten_by, disabled, enabled}
 use Rattle.prompt_scenes.specs.FrameWatches.{without_frames}
@@ -8,7 +9,7 @@ use Rattle.prompt_scenes.specs.Holding.{Held}
 
 -- the numbers of all breakpoints and watches, those of frames behind the others
 abbrev pub all_numbers : Debugger → Held → List ℕ
-all_numbers d h = map (λ entry. entry.0) d.stops ++ map (λ w. w.number) h.frames
+all_numbers d h = map (λ entry. entry.0) d.stops ++ map watch_number h.frames
 
 -- those that a line names: 80 at most, as many as can be there
 abbrev pub numbers_named : Debugger → Held → (text : List ℕ) → List ℕ

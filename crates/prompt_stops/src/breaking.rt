@@ -1,5 +1,5 @@
 //! Breakpoints and watches: how they are made and deleted, and what is said of them.
-ghost use Rattle.std.specs.Prelude.{◌≡◌, ◌==◌, None, Some};
+ghost use Rattle.std.specs.Prelude.{◌≡◌, ◌==◌, ℕ, List, Option, None, Some};
 ghost use Rattle.std.specs.List.{list_any};
 ghost use Rattle.gang_model.specs.Debugger.Debugger.{Debugger, DoWatch, Setting, do_command};
 ghost use Rattle.gang_model.specs.Texts.CommandText.{command_of, index};
@@ -17,6 +17,7 @@ ghost use Rattle.prompt_scenes.specs.FrameWatches as frames;
 ghost use Rattle.prompt_moves.specs.Breakpoints as breakpoints;
 ghost use Rattle.prompt_stops.specs.Breaking as breaking;
 
+use crate::expressions::watch_written;
 use crate::numbers::delete_named;
 use crate::taking::take_number;
 use crate::watches::{tell_deleted, tell_made};
@@ -24,6 +25,7 @@ use debug_answers::NumberedStop;
 use debug_commands::{Command, Target};
 use debug_session::Session;
 use debug_traits::{AnswerWriter, FramedMachine, RecordedMachine};
+use frame_expressions::ExpressionMachine;
 use gang_types::VarId;
 use prompt_lines::{before_condition, condition_in, index, split_word};
 use prompt_moves::{do_alone, stop_on};
@@ -42,8 +44,8 @@ const CONDITION_USAGE: &[u8] =
 const IGNORE_USAGE: &[u8] = b"`ignore N COUNT` passes so many stops of breakpoint or watch N.";
 
 /// Why no more is watched.
-const NO_ROOM: &[u8] =
-    b"C11 TableFull: 16 variables of functions are watched, as many as can be; `delete N` ends one.\n";
+pub(crate) const NO_ROOM: &[u8] =
+    b"C11 TableFull: 16 variables and expressions of functions are watched, as many as can be; `delete N` ends one.\n";
 
 /// Makes a breakpoint, with a condition where the line goes on with `if`.
 pub fn make_break<M: RecordedMachine, O: AnswerWriter + Drop>(
@@ -119,8 +121,9 @@ fn break_once<M: RecordedMachine, O: AnswerWriter + Drop>(
     set_made(made_number(&answer), condition, holding, page);
 }
 
-/// Makes a watch, with a condition where the line goes on with `if`.
-pub fn make_watch<M: FramedMachine, O: AnswerWriter + Drop>(
+/// Makes a watch, with a condition where the line goes on with `if`: of a target, else of an expression in the frame that is selected. Where
+/// there is no memory to read the expression, nothing is done.
+pub fn make_watch<M: ExpressionMachine, O: AnswerWriter + Drop>(
     text: &[u8],
     holding: &mut Holding,
     scene: Scene<'_>,
@@ -128,12 +131,12 @@ pub fn make_watch<M: FramedMachine, O: AnswerWriter + Drop>(
     page: &mut Page<O>,
 )
     ensures { (s : Setting) (d : Debugger) → StandsFor M.stands session.old s d
-        → HasDone M.stands s (breaking.watched s d (held holding.old) (readings.watch_of (command_of (before_if text.now)))) d session.new
-        × (held holding.new ≡ breaking.after_watch s d (held holding.old) (readings.watch_of (command_of (before_if text.now))) (condition_in text.now)) }
+        → breaking.Watches M.stands s d (held holding.old) (readings.watch_of (command_of (before_if text.now))) (breaking.written_in text.now) (condition_in text.now)
+        session.new (held holding.new) }
 {
     match watch_of(before_condition(text)) {
         Some(target) => watch_target(target, condition_in(text), holding, scene, session, page),
-        None => tell_unknown(scene.line, page),
+        None => watch_written(text, holding, scene, session, page),
     }
 }
 
@@ -147,8 +150,8 @@ fn watch_target<M: FramedMachine, O: AnswerWriter + Drop>(
     page: &mut Page<O>,
 )
     ensures { (s : Setting) (d : Debugger) → StandsFor M.stands session.old s d
-        → HasDone M.stands s (breaking.watched s d (held holding.old) (Some (target_view target.entry))) d session.new
-        × (held holding.new ≡ breaking.after_watch s d (held holding.old) (Some (target_view target.entry)) (bytes_option condition.entry)) }
+        → (text : Option (List ℕ)) → HasDone M.stands s (breaking.watched s d (held holding.old) (Some (target_view target.entry)) text) d session.new
+        × (held holding.new ≡ breaking.after_watch s d (held holding.old) (Some (target_view target.entry)) text (bytes_option condition.entry)) }
 {
     let depth = selected_depth(holding, session);
     match local_named(target, depth, session.machine()) {
@@ -201,7 +204,7 @@ fn watch_local<M: RecordedMachine, O: AnswerWriter + Drop>(
 }
 
 /// Gives what was made its condition, where there are both.
-fn set_made<O: AnswerWriter + Drop>(
+pub(crate) fn set_made<O: AnswerWriter + Drop>(
     made: Option<u32>,
     condition: Option<&[u8]>,
     holding: &mut Holding,

@@ -2,6 +2,7 @@
 #![tactic(auto)]
 
 mod breaking;
+mod expressions;
 mod lists;
 mod lists_told;
 mod numbers;

@@ -91,7 +91,7 @@ fn tell_frame_lines<O: AnswerWriter + Drop>(
     page: &mut Page<O>,
 ) {
     for watch in holding.frames.as_slice() {
-        tell_lines(watch.number, listed, page);
+        tell_lines(watch.number(), listed, page);
     }
 }
 

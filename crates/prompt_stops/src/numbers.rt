@@ -2,6 +2,7 @@
 ghost use Rattle.std.specs.Prelude.{◌≡◌, ◌≤◌, ◌++◌, ◌∷◌, [], filter, length, map, take};
 ghost use Rattle.gang_model.specs.Debugger.Debugger.{Debugger, Setting};
 ghost use Rattle.command_lists.specs.Lists.{HasDone};
+ghost use Rattle.conditional_stops.specs.Watches.{watch_number};
 ghost use Rattle.debug_session.specs.Sessions.{StandsFor};
 ghost use Rattle.prompt_lines.specs.Numbers.{names_number};
 ghost use Rattle.prompt_scenes.specs.Holding.{held};
@@ -11,7 +12,7 @@ ghost use Rattle.prompt_stops.specs.Numbers as named;
 
 use crate::breaking::delete_by;
 use arrayvec::ArrayVec;
-use conditional_stops::FrameWatch;
+use conditional_stops::Watch;
 use debug_answers::NumberedStop;
 use debug_session::Session;
 use debug_traits::{AnswerWriter, RecordedMachine};
@@ -202,13 +203,13 @@ fn add_stops(text: &[u8], stops: &[NumberedStop], numbers: &mut Numbers)
 }
 
 /// Adds the numbers that a line names, of the watches of frames.
-fn add_frames(text: &[u8], frames: &[FrameWatch], numbers: &mut Numbers)
+fn add_frames(text: &[u8], frames: &[Watch], numbers: &mut Numbers)
     requires { length numbers.old.items ≤ MOST }
-    ensures items { numbers.new.items ≡ take MOST (numbers.old.items ++ filter (λ number. names_number number text.now) (map (λ watch. watch.number) frames.now)) }
+    ensures items { numbers.new.items ≡ take MOST (numbers.old.items ++ filter (λ number. names_number number text.now) (map watch_number frames.now)) }
     ensures few { length numbers.new.items ≤ MOST }
 {
     for watch in frames {
-        add_if_named(text, watch.number, numbers);
+        add_if_named(text, watch.number(), numbers);
     }
 }
 

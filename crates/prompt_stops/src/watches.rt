@@ -1,10 +1,13 @@
-//! What is told of watches of variables of frames.
-use conditional_stops::{CountedStop, FrameWatch, MoveEnd, Moved, Reason};
+//! What is told of watches of what frames show.
+use conditional_stops::{CountedStop, FrameWatch, MoveEnd, Moved, Reason, Watch};
 use debug_commands::Target;
 use debug_session::Session;
 use debug_traits::{AnswerWriter, FramedMachine, RecordedMachine};
+use expression_watches::ExpressionWatch;
+use frame_expressions::ExpressionMachine;
+use frame_values::{NoValue, value_of_expression};
 use prompt_scenes::{Holding, Scene, depth};
-use prompt_texts::{Digits, Page};
+use prompt_texts::{Digits, Page, show_expression, show_faulty};
 use prompt_values::{show_target, tell_moved, tell_said};
 
 /// Tells the watch that was made by a number, if it was.
@@ -14,7 +17,7 @@ pub(crate) fn tell_made<O: AnswerWriter + Drop>(
     page: &mut Page<O>,
 ) {
     for watch in holding.frames.as_slice() {
-        if Some(watch.number) == number {
+        if Some(watch.number()) == number {
             page.put(b"watch ");
             put_watch(watch, b": ", page);
             page.put(b", while this frame is there\n");
@@ -36,14 +39,14 @@ pub fn list_frames<O: AnswerWriter + Drop>(holding: &Holding, page: &mut Page<O>
     for watch in holding.frames.as_slice() {
         put_watch(watch, b"  watch, ", page);
         page.put(b", of the frame at depth ");
-        page.put_number(watch.depth as i128);
+        page.put_number(watch.depth() as i128);
         page.put(b"\n");
-        tell_said(watch.number, holding, page);
+        tell_said(watch.number(), holding, page);
     }
 }
 
 /// Tells what a move by single steps came to: what a watch shows that stopped it, and what is told of conditions.
-pub fn tell_walked<M: FramedMachine, O: AnswerWriter + Drop>(
+pub fn tell_walked<M: ExpressionMachine, O: AnswerWriter + Drop>(
     moved: &Moved<'_>,
     holding: &Holding,
     scene: Scene<'_>,
@@ -66,9 +69,9 @@ pub fn tell_walked<M: FramedMachine, O: AnswerWriter + Drop>(
     tell_moved(&told, holding, page);
 }
 
-/// Shows a lane or an element that is watched by a number, or a variable of an outer frame; what changed of the top one is shown behind a
-/// move in any case.
-fn show_watched<M: FramedMachine, O: AnswerWriter + Drop>(
+/// Shows an expression, a lane or an element that is watched by a number, or a variable of an outer frame; what changed of the variables of
+/// the top one is shown behind a move in any case.
+fn show_watched<M: ExpressionMachine, O: AnswerWriter + Drop>(
     number: u32,
     holding: &Holding,
     scene: Scene<'_>,
@@ -77,9 +80,49 @@ fn show_watched<M: FramedMachine, O: AnswerWriter + Drop>(
 ) {
     let top = depth(session);
     for watch in holding.frames.as_slice() {
-        if watch.number == number && (watch.at.is_some() || watch.depth != top) {
-            show_watch(watch, scene, session.machine(), page);
+        if watch.number() == number {
+            show_seen(watch, top, scene, session, page);
         }
+    }
+}
+
+/// Shows an expression that is watched, a lane or an element, or a variable of another frame than the top one.
+fn show_seen<M: ExpressionMachine, O: AnswerWriter + Drop>(
+    watch: &Watch,
+    top: usize,
+    scene: Scene<'_>,
+    session: &Session<M>,
+    page: &mut Page<O>,
+) {
+    let machine = session.machine();
+    match watch {
+        Watch::Variable(watch) => {
+            if watch.at.is_some() || watch.depth != top {
+                show_watch(watch, scene, machine, page);
+            }
+        }
+        Watch::Expression(watch) => show_value(watch, scene, machine, page),
+    }
+}
+
+/// Shows the value of an expression that is watched, or its fault.
+fn show_value<M: ExpressionMachine, O: AnswerWriter + Drop>(
+    watch: &ExpressionWatch,
+    scene: Scene<'_>,
+    machine: &M,
+    page: &mut Page<O>,
+) {
+    let text = watch.text.as_slice();
+    match value_of_expression(scene.alloc, text, watch.depth, machine) {
+        Ok(value) => {
+            page.put(b"  ");
+            show_expression(text, Digits::Decimal, &value, page);
+        }
+        Err(NoValue::Fault(fault)) => {
+            page.put(b"  ");
+            show_faulty(text, fault, page);
+        }
+        Err(NoValue::NoFrame | NoValue::Refused(_)) => {}
     }
 }
 
@@ -117,10 +160,10 @@ pub fn tell_ended<M: RecordedMachine, O: AnswerWriter + Drop>(
     let top = depth(session);
     let is_back = session.machine().kept_steps() < steps;
     for watch in holding.frames.as_slice() {
-        if watch.depth > known {
+        if watch.depth() > known {
             page.put(b"watch ");
             put_watch(watch, b" of ", page);
-            page.put(if watch.depth <= top {
+            page.put(if watch.depth() <= top {
                 b" ends: this line may have left its frame\n"
             } else if is_back {
                 b" ends: its frame is not yet entered here\n"
@@ -132,9 +175,17 @@ pub fn tell_ended<M: RecordedMachine, O: AnswerWriter + Drop>(
 }
 
 /// Writes the number of a watch, and what it watches.
-fn put_watch<O: AnswerWriter + Drop>(watch: &FrameWatch, between: &[u8], page: &mut Page<O>) {
-    page.put_number(i128::from(watch.number));
+fn put_watch<O: AnswerWriter + Drop>(watch: &Watch, between: &[u8], page: &mut Page<O>) {
+    page.put_number(i128::from(watch.number()));
     page.put(between);
+    match watch {
+        Watch::Variable(watch) => put_part(watch, page),
+        Watch::Expression(watch) => page.put_masked(watch.text.as_slice()),
+    }
+}
+
+/// Writes a variable, or a lane or an element of it.
+fn put_part<O: AnswerWriter + Drop>(watch: &FrameWatch, page: &mut Page<O>) {
     page.put_masked(watch.name.as_slice());
     if let Some(index) = watch.at {
         page.put(b"[");

@@ -46,6 +46,11 @@ lanes_more f n =
     ap (λ k. flat_map f (range_with_len 0 k)) on ∙ ap (flat_map f) (range_more 0 n ∙ ap (λ k. range_with_len 0 n ++ k ∷ []) last)
     ∙ flat_append f (range_with_len 0 n) (n ∷ []) ∙ ap (λ l. flat_map f (range_with_len 0 n) ++ l) (append-nil (f n))
 
+-- the texts of the numbers from one on, with one more
+pub numbers_more : (f : ℕ → List ℕ) (a n : ℕ) → flat_map f (range_with_len a (suc n)) ≡ flat_map f (range_with_len a n) ++ f (a + n)
+numbers_more f a n =
+    ap (flat_map f) (range_more a n) ∙ flat_append f (range_with_len a n) ((a + n) ∷ []) ∙ ap (λ l. flat_map f (range_with_len a n) ++ l) (append-nil (f (a + n)))
+
 -- no lane is in a set that has none of its lanes
 pub all_wait : (lanes : Lanes) → ((k : ℕ) → k < length lanes → has lanes k ≡ false) → no_lane lanes ≡ true
 all_wait lanes none = elim (cases_Bool (no_lane lanes)) [

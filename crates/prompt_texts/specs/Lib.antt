@@ -3,3 +3,4 @@ pub mod Items
 pub mod Shown
 pub mod LaneShares
 pub mod Moments
+pub mod SourceLines

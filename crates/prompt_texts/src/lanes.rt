@@ -147,7 +147,7 @@ fn put_left<O: AnswerWriter + Drop>(number: u64, room: usize, page: &mut Page<O>
 }
 
 /// Writes a number behind blanks up to a width.
-fn put_right<O: AnswerWriter + Drop>(number: u64, room: usize, page: &mut Page<O>)
+pub(crate) fn put_right<O: AnswerWriter + Drop>(number: u64, room: usize, page: &mut Page<O>)
     ensures { Puts (spec.right room (decimal number)) page.old.has_failed page.new.has_failed (O.written page.old.writer) (O.written page.new.writer) }
 {
     let mut digits = Buffer::new();

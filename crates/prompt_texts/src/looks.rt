@@ -1,4 +1,13 @@
 //! What is looked at: nothing changes in the debugger.
+ghost use Rattle.std.specs.Prelude.{◌≡◌, ◌<◌, ◌+◌, ◌-◌, ◌++◌, codes, pos, suc};
+ghost use Rattle.std.specs.Fmt.{signed_decimal};
+ghost use Rattle.std.specs.Option.{unwrap_or};
+ghost use Rattle.gang_model.specs.Debugger.Debugger.{Debugger, Setting, now};
+ghost use Rattle.gang_model.specs.Debugger.Positions.{line_now};
+ghost use Rattle.debug_session.specs.Sessions.{StandsFor};
+ghost use Rattle.prompt_texts.specs.Shown.{Puts};
+ghost use Rattle.prompt_texts.specs.SourceLines as lines;
+
 use crate::answers::{put_target, put_watched};
 use crate::forms::Digits;
 use crate::help::{put_help, put_topic};
@@ -16,7 +25,7 @@ use prompt_help::explanation;
 
 /// What `info` lists.
 const LISTS: &[u8] =
-    b"`info` lists: breakpoints, watchpoints, locals, args, variables, display, frame, stack, lanes, record, checkpoints, source, line [N], program.\n";
+    b"`info` lists: breakpoints, watchpoints, locals, args, variables, functions [TEXT], display, frame, stack, lanes, record, checkpoints, source, line [N], program.\n";
 
 /// The most variables of a file that are shown.
 const VARIABLES: usize = 256;
@@ -28,31 +37,97 @@ pub fn list_lines<M: RecordedMachine, O: AnswerWriter + Drop>(
     source: Source<'_>,
     session: &Session<M>,
     page: &mut Page<O>,
-) {
-    let here = match session.machine().position() {
-        Some(position) => position.place.line,
-        None => 0,
-    };
-    if first >= next {
+)
+    ensures { (s : Setting) (d : Debugger) → StandsFor M.stands session.now s d
+        → Puts (lines.listed_text source.entry.text.now (unwrap_or (line_now s.program (now s d)) 0) first next) page.old.has_failed page.new.has_failed (O.written page.old.writer) (O.written page.new.writer) }
+{
+    let here = line_here(session.machine());
+    if first < next {
+        put_lines_or_past(here, first, next - 1, source, page);
+    } else {
         page.put(b"line 1 is the first one\n");
-        return;
-    }
-    if source.line(first).is_none() {
-        put_past_end(first, source, page);
-        return;
-    }
-    for number in first..next.min(source.lines().saturating_add(1)) {
-        let mark = if number == here { b"-> " } else { b"   " };
-        put_line(number, mark, source, page);
     }
 }
 
+/// The line where the program stands, or 0 where it has ended.
+fn line_here<M: RecordedMachine>(machine: &M) -> u32
+    ensures { (s : Setting) (d : Debugger) → M.stands machine.now s d → result ≡ unwrap_or (line_now s.program (now s d)) 0 }
+{
+    match machine.position() {
+        Some(position) => position.place.line,
+        None => 0,
+    }
+}
+
+/// Writes lines of the source from one on up to and with another one, or that there is no first of them.
+fn put_lines_or_past<O: AnswerWriter + Drop>(
+    here: u32,
+    first: u32,
+    last: u32,
+    source: Source<'_>,
+    page: &mut Page<O>,
+)
+    requires { last < 4294967295 }
+    ensures { Puts (lines.lines_or_past source.entry.text.now here first (last + 1) (lines.line_of source.entry.text.now first)) page.old.has_failed page.new.has_failed (O.written page.old.writer) (O.written page.new.writer) }
+{
+    match source.line(first) {
+        Some(_) => put_lines(here, first, last.min(source.lines()), source, page),
+        None => put_past_end(first, source, page),
+    }
+}
+
+/// Writes lines of the source from one on up to and with another one.
+fn put_lines<O: AnswerWriter + Drop>(
+    here: u32,
+    first: u32,
+    last: u32,
+    source: Source<'_>,
+    page: &mut Page<O>,
+)
+    requires { last < 4294967295 }
+    ensures { Puts (lines.lines_text source.entry.text.now here first (suc last - first)) page.old.has_failed page.new.has_failed (O.written page.old.writer) (O.written page.new.writer) }
+{
+    for number in first..last + 1 {
+        put_line(number, line_mark(here, number), source, page);
+    }
+}
+
+/// The mark before the line where the program stands, or before another one.
+fn line_mark(here: u32, number: u32) -> &'static [u8]
+    ensures { result.now ≡ lines.line_mark here number }
+{
+    if number == here { b"-> " } else { b"   " }
+}
+
 /// Writes that there is no line of a number.
-fn put_past_end<O: AnswerWriter + Drop>(line: u32, source: Source<'_>, page: &mut Page<O>) {
+fn put_past_end<O: AnswerWriter + Drop>(line: u32, source: Source<'_>, page: &mut Page<O>)
+    ensures { Puts (lines.past_text source.entry.text.now line) page.old.has_failed page.new.has_failed (O.written page.old.writer) (O.written page.new.writer) }
+{
     page.put(b"there is no line ");
+    put_line_number(line, page);
+    put_count(source.lines(), page);
+}
+
+/// Writes the number of a line.
+fn put_line_number<O: AnswerWriter + Drop>(line: u32, page: &mut Page<O>)
+    ensures { Puts (signed_decimal (pos line)) page.old.has_failed page.new.has_failed (O.written page.old.writer) (O.written page.new.writer) }
+{
     page.put_number(i128::from(line));
+}
+
+/// Writes how many lines a source has, and ends the line.
+fn put_count<O: AnswerWriter + Drop>(count: u32, page: &mut Page<O>)
+    ensures { Puts (lines.count_text count) page.old.has_failed page.new.has_failed (O.written page.old.writer) (O.written page.new.writer) }
+{
     page.put(b": the source has ");
-    page.put_number(i128::from(source.lines()));
+    put_lines_number(count, page);
+}
+
+/// Writes a number of lines, and ends the line.
+fn put_lines_number<O: AnswerWriter + Drop>(count: u32, page: &mut Page<O>)
+    ensures { Puts (signed_decimal (pos count) ++ codes " lines\n") page.old.has_failed page.new.has_failed (O.written page.old.writer) (O.written page.new.writer) }
+{
+    page.put_number(i128::from(count));
     page.put(b" lines\n");
 }
 

@@ -1,9 +1,11 @@
 //! What texts are written on.
-ghost use Rattle.std.specs.Prelude.{◌≡◌, false};
+ghost use Rattle.std.specs.Prelude.{◌≡◌, decimal, false};
 ghost use Rattle.std.specs.Fmt.{signed_decimal};
+ghost use Rattle.prompt_texts.specs.LaneShares.{right};
 ghost use Rattle.prompt_texts.specs.Shown as spec;
 ghost use Rattle.prompt_texts.specs.Shown.{Puts, masked};
 
+use crate::lanes::put_right;
 use arrayvec::ArrayVec;
 use debug_traits::AnswerWriter;
 use itoa::Buffer;
@@ -96,13 +98,10 @@ impl<O: AnswerWriter + Drop> Page<O> {
     }
 
     /// Writes a number in decimal digits, behind blanks to a width of five.
-    pub(crate) fn put_line_number(&mut self, number: u32) {
-        let mut digits = Buffer::new();
-        let text = digits.format(number).as_bytes();
-        for _ in text.len()..5 {
-            self.put(b" ");
-        }
-        self.put(text);
+    pub(crate) fn put_line_number(&mut self, number: u32)
+        ensures { Puts (right 5 (decimal number)) self.old.has_failed self.new.has_failed (O.written self.old.writer) (O.written self.new.writer) }
+    {
+        put_right(u64::from(number), 5, self);
     }
 }
 

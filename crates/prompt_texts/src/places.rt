@@ -1,8 +1,10 @@
 //! Where a frame stands: the place, the lanes, and the source around it.
-ghost use Rattle.std.specs.Prelude.{◌≡◌};
+ghost use Rattle.std.specs.Prelude.{◌≡◌, ◌++◌, codes, decimal};
 ghost use Rattle.gang_types.specs.Masks.{IsGangWidth, lanes_of};
+ghost use Rattle.prompt_texts.specs.LaneShares.{right};
 ghost use Rattle.prompt_texts.specs.Shown as spec;
-ghost use Rattle.prompt_texts.specs.Shown.{Puts, marks};
+ghost use Rattle.prompt_texts.specs.Shown.{Puts, marks, masked};
+ghost use Rattle.prompt_texts.specs.SourceLines.{line_of, line_text};
 
 use crate::marked::{digits, put_marked};
 use crate::page::Page;
@@ -203,14 +205,24 @@ pub(crate) fn put_line<O: AnswerWriter + Drop>(
     mark: &[u8],
     source: Source<'_>,
     page: &mut Page<O>,
-) {
-    if let Some(text) = source.line(number) {
-        page.put(mark);
-        page.put_line_number(number);
-        page.put(b"  ");
-        page.put_masked(text);
-        page.put(b"\n");
+)
+    ensures { Puts (line_text number mark.now (line_of source.entry.text.now number)) page.old.has_failed page.new.has_failed (O.written page.old.writer) (O.written page.new.writer) }
+{
+    match source.line(number) {
+        Some(text) => put_numbered(number, mark, text, page),
+        None => page.put(b""),
     }
+}
+
+/// Writes a line behind a mark and its number.
+fn put_numbered<O: AnswerWriter + Drop>(number: u32, mark: &[u8], text: &[u8], page: &mut Page<O>)
+    ensures { Puts (mark.now ++ right 5 (decimal number) ++ codes "  " ++ masked text.now ++ codes "\n") page.old.has_failed page.new.has_failed (O.written page.old.writer) (O.written page.new.writer) }
+{
+    page.put(mark);
+    page.put_line_number(number);
+    page.put(b"  ");
+    page.put_masked(text);
+    page.put(b"\n");
 }
 
 /// Writes a line of the source, where there is one of this number, with a mark under a column.

@@ -1,2 +1,5 @@
+pub mod Bare
+pub mod GangWidths
+pub mod WrittenForms
 mod WorkedForms
 mod WorkedNumbered

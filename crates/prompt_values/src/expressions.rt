@@ -1,11 +1,16 @@
 //! Expressions, in the frame that is selected.
-ghost use Rattle.std.specs.Prelude.{◌≡◌, drop};
+ghost use Rattle.std.specs.Prelude.{◌≡◌, ◌==◌, None, drop, false, not, true};
 ghost use Rattle.gang_model.specs.Debugger.Debugger.{Debugger, Setting, now};
 ghost use Rattle.debug_session.specs.Sessions.{StandsFor};
 ghost use Rattle.debug_traits.specs.Frames.{found_at};
+ghost use Rattle.prompt_lines.specs.Parts.{count_place};
 ghost use Rattle.prompt_scenes.specs.Holding.{held};
 ghost use Rattle.prompt_scenes.specs.SelectedFrame.{depth_of};
+ghost use Rattle.prompt_texts.specs.declared.forms.Digits.TheVariants as in_digits;
+ghost use Rattle.prompt_texts.specs.Shown.{Puts};
 ghost use Rattle.prompt_values.specs.Instead.{IsInstead, IsValueOrNone};
+ghost use Rattle.prompt_values.specs.Numbered.{IsExpressionOrNone, kept, value_name};
+ghost use Rattle.prompt_values.specs.Printed as spec;
 
 use crate::numbered::{Printed, Values, value_name};
 use crate::slices::{print_slice, slice_of, tell_no_slice};
@@ -13,7 +18,7 @@ use debug_session::Session;
 use debug_traits::{AnswerWriter, FramedMachine};
 use frame_expressions::ExpressionMachine;
 use frame_values::{ExpressionValue, value_of_expression};
-use prompt_lines::{HELD, is_alone};
+use prompt_lines::{HELD, count_place, is_alone, stripped};
 use prompt_scenes::{Holding, Scene, selected_depth};
 use prompt_texts::{Digits, Page, Spelled, show_expression, tell_no_value, tell_unknown};
 
@@ -74,22 +79,25 @@ fn value_or_none<M: ExpressionMachine>(
     }
 }
 
-/// Shows the value of the expression of a command line.
-pub fn show_instead<O: AnswerWriter + Drop>(
-    value: &ExpressionValue,
+/// Shows the value that a command line has as an expression, and gives it, where it has a word for each lane of a gang.
+pub fn print_instead<O: AnswerWriter + Drop>(
+    value: ExpressionValue,
     text: &[u8],
     page: &mut Page<O>,
-) {
-    show_expression(
-        expression_text(text).trim_ascii(),
+) -> Option<Printed>
+    ensures written { spec.IsWritten (λ line. Puts line page.old.has_failed page.new.has_failed (O.written page.old.writer) (O.written page.new.writer)) (drop 5 text.now) in_digits.Decimal result }
+    ensures value { IsExpressionOrNone value result }
+{
+    put_value(
+        stripped(expression_text(text)),
         Digits::Decimal,
         value,
         page,
-    );
+    )
 }
 
 /// Shows the value of the expression of a command line in the frame that is selected, or tells why it has none; a numbered value as it was
-/// printed. Gives a value that was shown and has no number yet.
+/// printed. Gives a value that was shown and has no number yet. Of a line that is too long, or is a word alone, nothing is shown.
 pub fn print_expression<M: ExpressionMachine, O: AnswerWriter + Drop>(
     text: &[u8],
     values: &Values,
@@ -97,18 +105,58 @@ pub fn print_expression<M: ExpressionMachine, O: AnswerWriter + Drop>(
     scene: Scene<'_>,
     session: &Session<M>,
     page: &mut Page<O>,
-) -> Option<Printed> {
-    if is_alone(text) || text.len() >= HELD {
+) -> Option<Printed>
+    ensures written { spec.names_something text.now ≡ true
+        → spec.WritesNamed (λ line. Puts line page.old.has_failed page.new.has_failed (O.written page.old.writer) (O.written page.new.writer)) (value_name (drop 5 text.now)) (drop 5 text.now) in_digits.Decimal (kept values.now) result }
+    ensures value { (s : Setting) (d : Debugger) → StandsFor M.stands session.now s d → spec.names_something text.now ≡ true
+        → spec.PrintsNamed (value_name (drop 5 text.now)) (drop 5 text.now) s d (depth_of s d (held holding.now)) result }
+    ensures none { spec.names_something text.now ≡ false → result ≡ None }
+{
+    if names_something(text) {
+        let written = expression_text(text);
+        print_text(
+            written,
+            Digits::Decimal,
+            values,
+            holding,
+            scene,
+            session,
+            page,
+        )
+    } else {
         tell_unknown(scene.line, page);
-        return None;
+        None
     }
-    let written = expression_text(text);
+}
+
+/// Whether all of a command line is held, and something stands behind its first word.
+pub(crate) fn names_something(text: &[u8]) -> bool
+    ensures { result ≡ spec.names_something text.now }
+{
+    text.len() < HELD && !is_alone(text)
+}
+
+/// Shows what is written in digits, in the frame that is selected: a numbered value, elements, or the value of an expression; or tells why
+/// there is none. Gives a value that was shown and has no number yet.
+fn print_text<M: ExpressionMachine, O: AnswerWriter + Drop>(
+    written: &[u8],
+    digits: Digits,
+    values: &Values,
+    holding: &Holding,
+    scene: Scene<'_>,
+    session: &Session<M>,
+    page: &mut Page<O>,
+) -> Option<Printed>
+    ensures written { spec.WritesNamed (λ line. Puts line page.old.has_failed page.new.has_failed (O.written page.old.writer) (O.written page.new.writer)) (value_name written.now) written.now digits (kept values.now) result }
+    ensures value { (s : Setting) (d : Debugger) → StandsFor M.stands session.now s d
+        → spec.PrintsNamed (value_name written.now) written.now s d (depth_of s d (held holding.now)) result }
+{
     match value_name(written) {
         Some(name) => {
-            values.show(name, Digits::Decimal, page);
+            values.show(name, digits, page);
             None
         }
-        None => print_written(written, Digits::Decimal, holding, scene, session, page),
+        None => print_written(written, digits, holding, scene, session, page),
     }
 }
 
@@ -121,13 +169,48 @@ pub(crate) fn print_written<M: ExpressionMachine, O: AnswerWriter + Drop>(
     scene: Scene<'_>,
     session: &Session<M>,
     page: &mut Page<O>,
-) -> Option<Printed> {
+) -> Option<Printed>
+    ensures written { spec.IsWritten (λ line. Puts line page.old.has_failed page.new.has_failed (O.written page.old.writer) (O.written page.new.writer)) written.now digits result }
+    ensures value { (s : Setting) (d : Debugger) → StandsFor M.stands session.now s d → spec.Prints written.now s d (depth_of s d (held holding.now)) result }
+{
     let depth = selected_depth(holding, session);
     let machine = session.machine();
+    if has_count(written) {
+        print_part(written, digits, depth, scene, machine, page)
+    } else {
+        print_value(written, digits, depth, scene, machine, page)
+    }
+}
+
+/// Whether a text has `@`.
+pub(crate) fn has_count(text: &[u8]) -> bool
+    ensures { result ≡ not (count_place text.now == 0) }
+{
+    count_place(text) != 0
+}
+
+/// Shows the elements that a text with `@` stands for, in the frame at a depth, or tells why there are none. Gives what was shown.
+fn print_part<M: ExpressionMachine, O: AnswerWriter + Drop>(
+    written: &[u8],
+    digits: Digits,
+    depth: usize,
+    scene: Scene<'_>,
+    machine: &M,
+    page: &mut Page<O>,
+) -> Option<Printed>
+    ensures { spec.IsWritten (λ line. Puts line page.old.has_failed page.new.has_failed (O.written page.old.writer) (O.written page.new.writer)) written.now digits result }
+{
     match slice_of(written, depth, scene, machine) {
-        None => print_value(written, digits, depth, scene, machine, page),
-        Some(Ok(slice)) => print_slice(&slice, digits, depth, scene, machine, page),
-        Some(Err(why)) => {
+        Ok(slice) => print_slice(
+            stripped(written),
+            &slice,
+            digits,
+            depth,
+            scene,
+            machine,
+            page,
+        ),
+        Err(why) => {
             tell_no_slice(&why, page);
             None
         }
@@ -142,12 +225,12 @@ fn print_value<M: ExpressionMachine, O: AnswerWriter + Drop>(
     scene: Scene<'_>,
     machine: &M,
     page: &mut Page<O>,
-) -> Option<Printed> {
+) -> Option<Printed>
+    ensures written { spec.IsWritten (λ line. Puts line page.old.has_failed page.new.has_failed (O.written page.old.writer) (O.written page.new.writer)) written.now digits result }
+    ensures value { (s : Setting) (d : Debugger) → M.stands machine.now s d → spec.IsPrintedOf written.now s d depth result }
+{
     match value_of_expression(scene.alloc, written, depth, machine) {
-        Ok(value) => {
-            show_expression(written.trim_ascii(), digits, &value, page);
-            Some(Printed::Expression(value))
-        }
+        Ok(value) => put_value(stripped(written), digits, value, page),
         Err(why) => {
             tell_no_value(
                 &why,
@@ -160,4 +243,18 @@ fn print_value<M: ExpressionMachine, O: AnswerWriter + Drop>(
             None
         }
     }
+}
+
+/// Shows the value of an expression behind what was typed, and gives it, where it has a word for each lane of a gang.
+pub(crate) fn put_value<O: AnswerWriter + Drop>(
+    typed: &[u8],
+    digits: Digits,
+    value: ExpressionValue,
+    page: &mut Page<O>,
+) -> Option<Printed>
+    ensures written { spec.IsLineOf (λ line. Puts line page.old.has_failed page.new.has_failed (O.written page.old.writer) (O.written page.new.writer)) typed.now digits result }
+    ensures value { IsExpressionOrNone value result }
+{
+    show_expression(typed, digits, &value, page);
+    Printed::of_expression(value)
 }

@@ -1,10 +1,14 @@
 //! What is shown in other digits, and expressions that are displayed. The debugger does nothing for them.
-ghost use Rattle.std.specs.Prelude.{◌≡◌, codes};
+ghost use Rattle.std.specs.Prelude.{◌≡◌, IfOk, Some, codes};
 ghost use Rattle.gang_model.specs.Texts.Spellings as spelling;
+ghost use Rattle.debug_commands.specs.Views.{target_view};
 ghost use Rattle.prompt_lines.specs.Readings.{bytes_option};
+ghost use Rattle.prompt_texts.specs.Shown.{Puts};
 ghost use Rattle.prompt_values.specs.Forms as spec;
+ghost use Rattle.prompt_values.specs.FormsPrinted as formed;
+ghost use Rattle.prompt_values.specs.Numbered.{kept};
 
-use crate::expressions::print_written;
+use crate::expressions::{has_count, names_something, print_written, put_value};
 use crate::numbered::{Printed, Values, value_name};
 use crate::slices::{print_slice, slice_of};
 use crate::values::{print_shown, show_target};
@@ -14,7 +18,7 @@ use debug_session::Session;
 use debug_traits::AnswerWriter;
 use frame_expressions::ExpressionMachine;
 use frame_values::{NoValue, value_of_expression};
-use prompt_lines::{HELD, is_alone, printing_line};
+use prompt_lines::{printing_line, stripped};
 use prompt_scenes::{Displayed, Holding, Scene, depth, find_part, print_of, selected_depth};
 use prompt_texts::{
     Digits, Page, show_expression, show_faulty, tell_refused, tell_refused_here, tell_unknown,
@@ -82,7 +86,7 @@ fn digits_of(letter: u8) -> Option<Digits>
 }
 
 /// Shows a target, an expression or a numbered value in the digits that a command line names, in the frame that is selected. Gives a value
-/// that was shown and has no number yet.
+/// that was shown and has no number yet. Of a line that is too long, or is a word alone, nothing is shown.
 pub fn print_formatted<M: ExpressionMachine, O: AnswerWriter + Drop>(
     text: &[u8],
     values: &Values,
@@ -90,19 +94,47 @@ pub fn print_formatted<M: ExpressionMachine, O: AnswerWriter + Drop>(
     scene: Scene<'_>,
     session: &Session<M>,
     page: &mut Page<O>,
-) -> Option<Printed> {
-    match form_of(text) {
-        Some(form) if is_within(text) => match value_name(form.text) {
-            Some(name) => {
-                values.show(name, form.digits, page);
-                None
-            }
-            None => print_named_form(form, holding, scene, session, page),
-        },
-        _ => {
+) -> Option<Printed>
+    ensures { formed.WritesForm (λ line. Puts line page.old.has_failed page.new.has_failed (O.written page.old.writer) (O.written page.new.writer)) (formed.form_named text.now) (kept values.now) result }
+{
+    match form_named(text) {
+        Some(form) => print_form(form, values, holding, scene, session, page),
+        None => {
             tell_unknown(scene.line, page);
             None
         }
+    }
+}
+
+/// What a command line names, where something stands behind its first word.
+fn form_named(text: &[u8]) -> Option<Form<'_>>
+    ensures { spec.form_option result ≡ formed.form_named text.now }
+{
+    if names_something(text) {
+        form_of(text)
+    } else {
+        None
+    }
+}
+
+/// Shows a numbered value, a target or an expression in digits, in the frame that is selected. Gives a value that was shown and has no
+/// number yet.
+fn print_form<M: ExpressionMachine, O: AnswerWriter + Drop>(
+    form: Form<'_>,
+    values: &Values,
+    holding: &Holding,
+    scene: Scene<'_>,
+    session: &Session<M>,
+    page: &mut Page<O>,
+) -> Option<Printed>
+    ensures { formed.WritesForm (λ line. Puts line page.old.has_failed page.new.has_failed (O.written page.old.writer) (O.written page.new.writer)) (Some (spec.form_view form.entry)) (kept values.now) result }
+{
+    match value_name(form.text) {
+        Some(name) => {
+            values.show(name, form.digits, page);
+            None
+        }
+        None => print_named_form(form, holding, scene, session, page),
     }
 }
 
@@ -114,17 +146,12 @@ pub fn show_formatted<M: ExpressionMachine, O: AnswerWriter + Drop>(
     session: &Session<M>,
     page: &mut Page<O>,
 ) {
-    match form_of(text) {
-        Some(form) if is_within(text) => {
+    match form_named(text) {
+        Some(form) => {
             let _ = print_named_form(form, holding, scene, session, page);
         }
-        _ => tell_unknown(scene.line, page),
+        None => tell_unknown(scene.line, page),
     }
-}
-
-/// Whether all of a command line is held, and something stands behind its first word.
-fn is_within(text: &[u8]) -> bool {
-    text.len() < HELD && !is_alone(text)
 }
 
 /// Shows a target or an expression in the frame that is selected, or tells why it is not shown. Gives what was shown.
@@ -134,20 +161,50 @@ fn print_named_form<M: ExpressionMachine, O: AnswerWriter + Drop>(
     scene: Scene<'_>,
     session: &Session<M>,
     page: &mut Page<O>,
-) -> Option<Printed> {
+) -> Option<Printed>
+    ensures { formed.IsWrittenOf (λ line. Puts line page.old.has_failed page.new.has_failed (O.written page.old.writer) (O.written page.new.writer)) (formed.target_of form.entry.text.now) form.entry.text.now form.entry.digits result }
+{
     let line = printing_line(form.text);
-    let Some(target) = print_of(line.as_slice()) else {
-        return print_written(form.text, form.digits, holding, scene, session, page);
-    };
+    match print_of(line.as_slice()) {
+        Some(target) => print_target(form, target, holding, scene, session, page),
+        None => print_written(form.text, form.digits, holding, scene, session, page),
+    }
+}
+
+/// Shows a target in the frame that is selected, or tells why it is not shown. Gives what was shown.
+fn print_target<M: ExpressionMachine, O: AnswerWriter + Drop>(
+    form: Form<'_>,
+    target: Target<'_>,
+    holding: &Holding,
+    scene: Scene<'_>,
+    session: &Session<M>,
+    page: &mut Page<O>,
+) -> Option<Printed>
+    ensures { formed.IsWrittenOf (λ line. Puts line page.old.has_failed page.new.has_failed (O.written page.old.writer) (O.written page.new.writer)) (Some (target_view target.entry)) form.entry.text.now form.entry.digits result }
+{
     let depth = selected_depth(holding, session);
     match print_found(form, target, depth, scene, session.machine(), page) {
-        Ok(printed) => return printed,
-        Err(refusal) if holding.is_top() => {
-            tell_refused_here(refusal, scene.line, session.machine(), page);
+        Ok(printed) => printed,
+        Err(refusal) => {
+            tell_refused_form(refusal, holding, scene, session, page);
+            None
         }
-        Err(refusal) => tell_refused(refusal, scene.line, page),
     }
-    None
+}
+
+/// Tells why a target is not shown in the frame that is selected.
+fn tell_refused_form<M: ExpressionMachine, O: AnswerWriter + Drop>(
+    refusal: Refusal,
+    holding: &Holding,
+    scene: Scene<'_>,
+    session: &Session<M>,
+    page: &mut Page<O>,
+) {
+    if holding.is_top() {
+        tell_refused_here(refusal, scene.line, session.machine(), page);
+    } else {
+        tell_refused(refusal, scene.line, page);
+    }
 }
 
 /// Shows a target of the frame at a depth; where its name stands for no variable, what it is as an expression. Gives what was shown.
@@ -158,14 +215,13 @@ fn print_found<M: ExpressionMachine, O: AnswerWriter + Drop>(
     scene: Scene<'_>,
     machine: &M,
     page: &mut Page<O>,
-) -> Result<Option<Printed>, Refusal> {
+) -> Result<Option<Printed>, Refusal>
+    ensures { IfOk result (λ value. formed.IsWrittenOf (λ line. Puts line page.old.has_failed page.new.has_failed (O.written page.old.writer) (O.written page.new.writer)) (Some (target_view target.entry)) form.entry.text.now form.entry.digits value) }
+{
     match find_part(target, depth, machine) {
         Ok(shown) => Ok(print_shown(target, form.digits, shown, depth, scene, machine, page)),
         Err(refusal) => match value_of_expression(scene.alloc, form.text, depth, machine) {
-            Ok(value) => {
-                show_expression(form.text.trim_ascii(), form.digits, &value, page);
-                Ok(Some(Printed::Expression(value)))
-            }
+            Ok(value) => Ok(put_value(stripped(form.text), form.digits, value, page)),
             Err(_) => Err(refusal),
         },
     }
@@ -212,19 +268,22 @@ fn show_written<M: ExpressionMachine, O: AnswerWriter + Drop>(
     machine: &M,
     page: &mut Page<O>,
 ) {
-    if let Some(Ok(slice)) = slice_of(form.text, depth, scene, machine) {
-        put_number(number, page);
-        let _ = print_slice(&slice, form.digits, depth, scene, machine, page);
+    if has_count(form.text) {
+        if let Ok(slice) = slice_of(form.text, depth, scene, machine) {
+            put_number(number, page);
+            let typed = stripped(form.text);
+            let _ = print_slice(typed, &slice, form.digits, depth, scene, machine, page);
+        }
         return;
     }
     match value_of_expression(scene.alloc, form.text, depth, machine) {
         Ok(value) => {
             put_number(number, page);
-            show_expression(form.text.trim_ascii(), form.digits, &value, page);
+            show_expression(stripped(form.text), form.digits, &value, page);
         }
         Err(NoValue::Fault(fault)) => {
             put_number(number, page);
-            show_faulty(form.text.trim_ascii(), fault, page);
+            show_faulty(stripped(form.text), fault, page);
         }
         Err(NoValue::NoFrame | NoValue::Refused(_)) => {}
     }

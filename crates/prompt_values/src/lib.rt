@@ -3,14 +3,18 @@
 
 mod expressions;
 mod forms;
+mod functions;
+mod gang_values;
 mod numbered;
 mod returned;
 mod slices;
 mod telling;
 mod values;
 
-pub use expressions::{print_expression, show_instead, value_instead};
+pub use expressions::{print_expression, print_instead, value_instead};
 pub use forms::{Form, form_of, print_formatted, show_form, show_form_here, show_formatted};
+pub use functions::show_functions;
+pub use gang_values::GangValue;
 pub use numbered::{NumberedValue, Printed, ValueName, Values, value_name};
 pub use returned::{Awaited, awaited_by, tell_returned};
 pub use telling::{

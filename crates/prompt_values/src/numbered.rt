@@ -1,16 +1,16 @@
 //! The values that were printed, by their numbers.
-ghost use Rattle.std.specs.Prelude.{◌≡◌, ◌++◌, codes, option_map};
+ghost use Rattle.std.specs.Prelude.{◌≡◌, ◌≤◌, ◌++◌, codes, option_map, pos};
 ghost use Rattle.std.specs.Fmt.{signed_decimal};
-ghost use Rattle.gang_types.specs.Masks.{IsGangWidth};
+ghost use Rattle.gang_model.specs.Texts.Spellings as spelling;
+ghost use Rattle.prompt_lines.specs.Readings.{bytes_option};
 ghost use Rattle.prompt_texts.specs.Shown.{Puts};
 ghost use Rattle.prompt_values.specs.Numbered as spec;
 
+use crate::gang_values::GangValue;
 use arrayvec::ArrayVec;
 use debug_traits::AnswerWriter;
-use frame_expressions::LaneWords;
 use frame_values::ExpressionValue;
-use gang_types::{IntType, Mask, Rate};
-use prompt_lines::index;
+use prompt_lines::{index, stripped};
 use prompt_texts::{Digits, Page, Told, put_told, show_expression};
 
 /// How many values are kept.
@@ -18,6 +18,9 @@ const MOST: usize = 100;
 
 /// The last number that is given to a value.
 const LAST_NUMBER: u32 = 10_000_000;
+
+/// What the name of a value begins with.
+const DOLLAR: &[u8] = b"$";
 
 /// How many values are listed at once.
 const LISTED: u32 = 10;
@@ -28,7 +31,19 @@ pub enum Printed {
     /// Of a variable, a lane or elements.
     Told(Told),
     /// Of an expression.
-    Expression(ExpressionValue),
+    Expression(GangValue),
+}
+
+impl Printed {
+    /// The value of an expression, where it has a word for each lane of a gang.
+    pub fn of_expression(value: ExpressionValue) -> Option<Printed>
+        ensures { spec.IsExpressionOrNone value result }
+    {
+        match GangValue::of(value) {
+            Some(value) => Some(Printed::Expression(value)),
+            None => None,
+        }
+    }
 }
 
 /// A value that was printed, and its number.
@@ -45,15 +60,7 @@ impl Default for NumberedValue {
     fn default() -> Self {
         NumberedValue {
             number: 0,
-            value: Printed::Expression(ExpressionValue {
-                value_type: IntType::Bool,
-                rate: Rate::Uniform,
-                lanes: LaneWords {
-                    words: [0; 16],
-                    width: 4,
-                    lanes: Mask::none(),
-                },
-            }),
+            value: Printed::Expression(GangValue::blank()),
         }
     }
 }
@@ -125,52 +132,99 @@ impl Values {
     }
 
     /// Writes the value of a name behind its number, or why there is none.
-    pub fn show<O: AnswerWriter + Drop>(
-        &self,
-        name: ValueName,
-        digits: Digits,
-        page: &mut Page<O>,
-    ) {
+    pub fn show<O: AnswerWriter + Drop>(&self, name: ValueName, digits: Digits, page: &mut Page<O>)
+        ensures { Puts (spec.named_text digits name (spec.kept self.now)) page.old.has_failed page.new.has_failed (O.written page.old.writer) (O.written page.new.writer) }
+    {
         match self.named(name) {
             Some(value) => put_numbered(digits, value, page),
-            None => self.tell_none(name, page),
+            None => tell_none(name, self.next, page),
         }
-    }
-
-    /// Writes why a name has no value: it was never printed, or is kept no more.
-    fn tell_none<O: AnswerWriter + Drop>(&self, name: ValueName, page: &mut Page<O>) {
-        if self.next <= 1 {
-            page.put(b"No value was printed yet: `print T` shows one, and gives it a number.\n");
-            return;
-        }
-        page.put(b"There is no value ");
-        put_name(name, page);
-        page.put(b": ");
-        page.put_number(i128::from(self.next - 1));
-        page.put(b" were printed, and the last 100 are kept.\n");
     }
 
     /// Writes ten values, the last ones, or those around a number.
-    pub fn list<O: AnswerWriter + Drop>(&self, number: Option<u32>, page: &mut Page<O>) {
-        if self.next <= 1 {
-            page.put(b"No value was printed yet.\n");
-        }
+    pub fn list<O: AnswerWriter + Drop>(&self, number: Option<u32>, page: &mut Page<O>)
+        ensures { Puts (spec.listed_text number (spec.kept self.now)) page.old.has_failed page.new.has_failed (O.written page.old.writer) (O.written page.new.writer) }
+    {
+        tell_empty(self.next, page);
+        self.put_from(self.first_listed(number), page);
+    }
+
+    /// The number of the first value that is listed.
+    fn first_listed(&self, number: Option<u32>) -> u32
+        ensures first { result ≡ spec.first_listed number (spec.kept self.now) }
+        ensures few { result ≤ 10000000 }
+    {
         let first = match number {
             Some(number) => number.saturating_sub(LISTED / 2),
             None => self.next.saturating_sub(LISTED),
         };
-        let first = first.max(1);
-        for number in first..first.saturating_add(LISTED) {
-            if let Some(value) = self.named(ValueName::Number(number)) {
-                put_numbered(Digits::Decimal, value, page);
-            }
+        first.max(1).min(LAST_NUMBER)
+    }
+
+    /// Writes a line for each of ten numbers from one on that a value has.
+    fn put_from<O: AnswerWriter + Drop>(&self, first: u32, page: &mut Page<O>)
+        requires { first ≤ 10000000 }
+        ensures { Puts (spec.listed_lines (spec.kept self.now) first) page.old.has_failed page.new.has_failed (O.written page.old.writer) (O.written page.new.writer) }
+    {
+        for place in 0..LISTED {
+            self.put_listed(first + place, page);
+        }
+    }
+
+    /// Writes a line for the value of a number, if there is one.
+    fn put_listed<O: AnswerWriter + Drop>(&self, number: u32, page: &mut Page<O>)
+        ensures { Puts (spec.listed_line (spec.kept self.now) number) page.old.has_failed page.new.has_failed (O.written page.old.writer) (O.written page.new.writer) }
+    {
+        match self.named(ValueName::Number(number)) {
+            Some(value) => put_numbered(Digits::Decimal, value, page),
+            None => page.put(b""),
         }
     }
 }
 
+/// Writes that no value was printed, where the next one gets this number, if none was.
+fn tell_empty<O: AnswerWriter + Drop>(next: u32, page: &mut Page<O>)
+    ensures { Puts (spec.empty_text next) page.old.has_failed page.new.has_failed (O.written page.old.writer) (O.written page.new.writer) }
+{
+    if next <= 1 {
+        page.put(b"No value was printed yet.\n");
+    } else {
+        page.put(b"");
+    }
+}
+
+/// Writes why a name has no value, where the next one gets this number: it was never printed, or is kept no more.
+fn tell_none<O: AnswerWriter + Drop>(name: ValueName, next: u32, page: &mut Page<O>)
+    ensures { Puts (spec.none_text name next) page.old.has_failed page.new.has_failed (O.written page.old.writer) (O.written page.new.writer) }
+{
+    if next <= 1 {
+        page.put(b"No value was printed yet: `print T` shows one, and gives it a number.\n");
+    } else {
+        page.put(b"There is no value ");
+        put_name(name, page);
+        put_count(next - 1, page);
+    }
+}
+
+/// Writes behind a name how many values were printed, and how many are kept.
+fn put_count<O: AnswerWriter + Drop>(count: u32, page: &mut Page<O>)
+    ensures { Puts (spec.count_text count) page.old.has_failed page.new.has_failed (O.written page.old.writer) (O.written page.new.writer) }
+{
+    page.put(b": ");
+    put_printed_number(count, page);
+}
+
+/// Writes how many values were printed, and how many are kept.
+fn put_printed_number<O: AnswerWriter + Drop>(count: u32, page: &mut Page<O>)
+    ensures { Puts (signed_decimal (pos count) ++ codes " were printed, and the last 100 are kept.\n") page.old.has_failed page.new.has_failed (O.written page.old.writer) (O.written page.new.writer) }
+{
+    page.put_number(i128::from(count));
+    page.put(b" were printed, and the last 100 are kept.\n");
+}
+
 /// Writes a line: a value behind its number.
 fn put_numbered<O: AnswerWriter + Drop>(digits: Digits, value: &NumberedValue, page: &mut Page<O>)
-    ensures { spec.IsWide value.now.value → Puts (spec.numbered_line digits value.now) page.old.has_failed page.new.has_failed (O.written page.old.writer) (O.written page.new.writer) }
+    ensures { Puts (spec.numbered_line digits value.now) page.old.has_failed page.new.has_failed (O.written page.old.writer) (O.written page.new.writer) }
 {
     page.put(b"$");
     page.put_number(i128::from(value.number));
@@ -179,19 +233,21 @@ fn put_numbered<O: AnswerWriter + Drop>(digits: Digits, value: &NumberedValue, p
 
 /// Writes a value behind `=`, and ends the line.
 fn put_printed<O: AnswerWriter + Drop>(digits: Digits, value: &Printed, page: &mut Page<O>)
-    ensures { spec.IsWide value.now → Puts (spec.printed_line digits value.now) page.old.has_failed page.new.has_failed (O.written page.old.writer) (O.written page.new.writer) }
+    ensures { Puts (spec.printed_line digits value.now) page.old.has_failed page.new.has_failed (O.written page.old.writer) (O.written page.new.writer) }
 {
     match value {
         Printed::Told(told) => {
             page.put(b" =");
             put_told(digits, told, page);
         }
-        Printed::Expression(value) => show_expression(&[], digits, value, page),
+        Printed::Expression(value) => show_expression(&[], digits, &value.value, page),
     }
 }
 
 /// Writes the name of a value.
-fn put_name<O: AnswerWriter + Drop>(name: ValueName, page: &mut Page<O>) {
+fn put_name<O: AnswerWriter + Drop>(name: ValueName, page: &mut Page<O>)
+    ensures { Puts (spec.name_text name) page.old.has_failed page.new.has_failed (O.written page.old.writer) (O.written page.new.writer) }
+{
     match name {
         ValueName::Number(number) => {
             page.put(b"$");
@@ -205,12 +261,45 @@ fn put_name<O: AnswerWriter + Drop>(name: ValueName, page: &mut Page<O>) {
 }
 
 /// The value that a text names: `$` the last one, `$$` the one before, `$N` that of a number, `$$N` the N-th before the last.
-pub fn value_name(text: &[u8]) -> Option<ValueName> {
-    let rest = text.trim_ascii().strip_prefix(b"$")?;
-    match rest {
+pub fn value_name(text: &[u8]) -> Option<ValueName>
+    ensures { result ≡ spec.value_name text.now }
+{
+    match behind_dollar(stripped(text)) {
+        Some(rest) => name_behind(rest),
+        None => None,
+    }
+}
+
+/// What follows `$`, in a text that begins with it.
+fn behind_dollar(text: &[u8]) -> Option<&[u8]>
+    ensures { bytes_option result ≡ spelling.behind (codes "$") text.now }
+{
+    text.strip_prefix(DOLLAR)
+}
+
+/// What `$` and a text behind it name.
+fn name_behind(text: &[u8]) -> Option<ValueName>
+    ensures { result ≡ spec.name_behind text.now }
+{
+    match text {
         [] => Some(ValueName::Behind(0)),
-        [b'$'] => Some(ValueName::Behind(1)),
-        [b'$', places @ ..] => Some(ValueName::Behind(index(places)?)),
-        number => Some(ValueName::Number(index(number)?)),
+        [b'$', places @ ..] => places_behind(places),
+        number => match index(number) {
+            Some(number) => Some(ValueName::Number(number)),
+            None => None,
+        },
+    }
+}
+
+/// What `$$` and a text behind it name.
+fn places_behind(text: &[u8]) -> Option<ValueName>
+    ensures { result ≡ spec.places_behind text.now }
+{
+    match text {
+        [] => Some(ValueName::Behind(1)),
+        places => match index(places) {
+            Some(places) => Some(ValueName::Behind(places)),
+            None => None,
+        },
     }
 }

@@ -1,4 +1,7 @@
 //! Some elements of an array: `table@8`, `table[3]@8`.
+ghost use Rattle.prompt_texts.specs.Shown.{Puts, masked};
+ghost use Rattle.prompt_values.specs.Printed.{line_or_none};
+
 use crate::numbered::Printed;
 use crate::values::print_elements;
 use debug_traits::{AnswerWriter, Shown};
@@ -12,10 +15,9 @@ use prompt_texts::{Digits, Page, Spelled, tell_no_value};
 /// The widest gang.
 const WIDEST: usize = 16;
 
-/// Elements of an array, from one on up to another, and how they are written.
+/// Elements of an array, from one on up to another.
 #[derive(Clone, Copy)]
-pub(crate) struct Slice<'a> {
-    typed: &'a [u8],
+pub(crate) struct Slice {
     shown: Shown,
     from: usize,
     to: usize,
@@ -40,32 +42,20 @@ pub(crate) fn slice_of<'a, M: ExpressionMachine>(
     depth: usize,
     scene: Scene<'_>,
     machine: &M,
-) -> Option<Result<Slice<'a>, NoSlice<'a>>> {
+) -> Result<Slice, NoSlice<'a>> {
     let place = count_place(text);
-    if place == 0 {
-        return None;
-    }
-    let before = text[..place - 1].trim_ascii();
-    let found = slice_by(
-        text.trim_ascii(),
-        before,
-        &text[place..],
-        depth,
-        scene,
-        machine,
-    );
-    Some(found)
+    let before = text[..place.saturating_sub(1)].trim_ascii();
+    slice_by(before, &text[place..], depth, scene, machine)
 }
 
 /// The elements from what stands before `@` on, as many as what stands behind it says.
 fn slice_by<'a, M: ExpressionMachine>(
-    typed: &'a [u8],
     before: &'a [u8],
     behind: &'a [u8],
     depth: usize,
     scene: Scene<'_>,
     machine: &M,
-) -> Result<Slice<'a>, NoSlice<'a>> {
+) -> Result<Slice, NoSlice<'a>> {
     let (name, index) = name_and_index(before);
     let shown = match machine.find_at(depth, name) {
         Some(shown) if shown.is_array => shown,
@@ -81,7 +71,6 @@ fn slice_by<'a, M: ExpressionMachine>(
         return Err(NoSlice::Outside(name, shown.count));
     }
     Ok(Slice {
-        typed,
         shown,
         from: from as usize,
         to: (from + count) as usize,
@@ -127,17 +116,20 @@ fn uniform_number(found: &ExpressionValue) -> i128 {
     0
 }
 
-/// Shows elements of an array of the frame at a depth, and gives what was shown.
+/// Shows elements of an array of the frame at a depth behind what was typed for them, and gives what was shown.
 pub(crate) fn print_slice<M: ExpressionMachine, O: AnswerWriter + Drop>(
-    slice: &Slice<'_>,
+    typed: &[u8],
+    slice: &Slice,
     digits: Digits,
     depth: usize,
     scene: Scene<'_>,
     machine: &M,
     page: &mut Page<O>,
-) -> Option<Printed> {
+) -> Option<Printed>
+    ensures { Puts (line_or_none (masked typed.now) digits result) page.old.has_failed page.new.has_failed (O.written page.old.writer) (O.written page.new.writer) }
+{
     print_elements(
-        slice.typed,
+        typed,
         digits,
         slice.shown,
         slice.from,

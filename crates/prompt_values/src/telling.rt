@@ -117,7 +117,7 @@ fn least_from<M: RecordedMachine>(
         .frames
         .as_slice()
         .iter()
-        .map(|watch| watch.number)
+        .map(|watch| watch.number())
         .filter(|number| *number >= first)
         .min();
     match (stop, frame) {

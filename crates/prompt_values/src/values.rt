@@ -1,12 +1,12 @@
 //! What a variable shows: its lanes or its elements, or some of them.
-ghost use Rattle.std.specs.Prelude.{◌∷◌, ◌++◌, [], IfSome};
+ghost use Rattle.std.specs.Prelude.{◌∷◌, []};
 ghost use Rattle.gang_model.specs.Debugger.Debugger.{Debugger, Setting};
 ghost use Rattle.command_lists.specs.Lists.{HasDone};
 ghost use Rattle.gang_model.specs.Texts.Text.{target_text};
 ghost use Rattle.debug_commands.specs.Views.{command_view, target_view};
 ghost use Rattle.debug_session.specs.Sessions.{StandsFor};
 ghost use Rattle.prompt_texts.specs.Shown.{Puts, masked};
-ghost use Rattle.prompt_values.specs.Numbered as spec;
+ghost use Rattle.prompt_values.specs.Printed as spec;
 
 use crate::numbered::Printed;
 use debug_answers::Answer;
@@ -17,7 +17,7 @@ use prompt_scenes::{Scene, depth};
 use prompt_texts::{Digits, Page, lanes_at, put_told, show_value, tell, told_variable};
 
 /// What is said where memory runs out.
-const NO_MEMORY: &[u8] = b"C12 Memory: there is no memory to show this.\n";
+pub(crate) const NO_MEMORY: &[u8] = b"C12 Memory: there is no memory to show this.\n";
 
 /// Shows a target of the frame at a depth.
 pub fn show_target<M: FramedMachine, O: AnswerWriter + Drop>(
@@ -32,7 +32,7 @@ pub fn show_target<M: FramedMachine, O: AnswerWriter + Drop>(
     let _ = print_shown(target, digits, shown, depth, scene, machine, page);
 }
 
-/// Shows a target of the frame at a depth, and gives what was shown.
+/// Shows a target of the frame at a depth, and gives what was shown: none where there is no memory, which is told.
 pub fn print_shown<M: FramedMachine, O: AnswerWriter + Drop>(
     target: Target<'_>,
     digits: Digits,
@@ -42,7 +42,7 @@ pub fn print_shown<M: FramedMachine, O: AnswerWriter + Drop>(
     machine: &M,
     page: &mut Page<O>,
 ) -> Option<Printed>
-    ensures { IfSome result (λ printed. Puts (target_text (target_view target.entry) ++ spec.printed_line digits printed) page.old.has_failed page.new.has_failed (O.written page.old.writer) (O.written page.new.writer)) }
+    ensures { Puts (spec.line_or_none (target_text (target_view target.entry)) digits result) page.old.has_failed page.new.has_failed (O.written page.old.writer) (O.written page.new.writer) }
 {
     let (from, to) = match target.at {
         None => (0, shown.count),
@@ -83,7 +83,7 @@ pub(crate) fn print_elements<M: FramedMachine, O: AnswerWriter + Drop>(
     machine: &M,
     page: &mut Page<O>,
 ) -> Option<Printed>
-    ensures { IfSome result (λ printed. Puts (masked typed.now ++ spec.printed_line digits printed) page.old.has_failed page.new.has_failed (O.written page.old.writer) (O.written page.new.writer)) }
+    ensures { Puts (spec.line_or_none (masked typed.now) digits result) page.old.has_failed page.new.has_failed (O.written page.old.writer) (O.written page.new.writer) }
 {
     let lanes = lanes_at(depth, machine);
     match told_variable(
@@ -125,7 +125,9 @@ pub fn print_answer<M: FramedMachine, O: AnswerWriter + Drop>(
     scene: Scene<'_>,
     session: &Session<M>,
     page: &mut Page<O>,
-) -> Option<Printed> {
+) -> Option<Printed>
+    ensures { spec.TellsAnswer (λ text. Puts text page.old.has_failed page.new.has_failed (O.written page.old.writer) (O.written page.new.writer)) answer.now result }
+{
     match answer {
         Answer::Shows { target, shown } => {
             let machine = session.machine();

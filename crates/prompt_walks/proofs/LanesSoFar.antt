@@ -1,22 +1,21 @@
 -- The steps of a run so far, one after another, and what is counted of them.
-use Rattle.std.proofs.Common.{◌≡◌, ◌≤◌, ◌<◌, ◌+◌, ◌-◌, ℕ, zero, suc, Bool, true, false, List, [], ◌∷◌, map, length, Option, Some, None, refl, sym, subst, ap, ◌∙◌, arith}
-use Rattle.std.specs.Prelude.{◌^◌, nat_lt, if◌then◌else◌}
+use Rattle.std.proofs.Common.{◌≡◌, ◌≤◌, ◌+◌, ◌-◌, ℕ, suc, Bool, true, false, List, [], ◌∷◌, map, length, Option, Some, None, refl, sym, ap, ◌∙◌, arith}
+use Rattle.std.specs.Prelude.{if◌then◌else◌}
 use Rattle.std.proofs.lemmas.Bool.{true≢false}
 use Rattle.std.proofs.lemmas.List.Sums.{count_by-le-length}
 use Rattle.gang_types.specs.declared.masks.Mask.{Mask}
 use Rattle.gang_types.specs.Masks.{lanes_of}
 use Rattle.gang_model.specs.Types.Tree.{Program}
-use Rattle.gang_model.specs.Running.State.{State}
 use Rattle.gang_model.specs.Running.Step.{Stepped, Goes, Fails, Over, step}
 use Rattle.gang_model.specs.Debugger.Events.{Step, gone}
-use Rattle.gang_model.specs.Debugger.Debugger.{AtFault, Debugger, DoStep, Ended, Here, Moves, Reply, Setting, attempted, do_command, forward, forward_refusal, has_ended, moved, now, refused, reply}
+use Rattle.gang_model.specs.Debugger.Debugger.{AtFault, Debugger, DoStep, Ended, Here, Moves, Reply, Setting, attempted, do_command, forward, has_ended, moved, now, refused, reply}
 use Rattle.debug_session.proofs.Replies.{forward_done, forward_refused}
 use Rattle.lane_counts.specs.declared.counts.Counts.{Counts}
 use Rattle.lane_counts.specs.declared.gang.Gang.{Gang}
 use Rattle.lane_counts.specs.declared.gang.Gang.TheVariants.{Four, Eight, Sixteen}
 use Rattle.lane_counts.specs.Counted.{IsFew, none, noted, with_step}
 use Rattle.lane_counts.specs.Pending.{width_of}
-use Rattle.lane_counts.specs.Steps.{Stand, active, each, one_if}
+use Rattle.lane_counts.specs.Steps.{Stand, active, each}
 use Rattle.lane_counts.specs.Tallies.{unparted_of, unparted_with}
 use Rattle.lane_counts.proofs.Noting.{few_more, few_noted, lanes_length, same_counts, with_unparted}
 use Rattle.lane_picture.proofs.Trying.{ended_over, over_ended}

@@ -1,8 +1,7 @@
 use Rattle.std.proofs.Common.{refl, ap, ◌∙◌, ℕ, List, Option}
 use Rattle.adapter_session.specs.Changes.{Change, change_of}
 use Rattle.adapter_session.specs.Given.{all_numbers}
-use Rattle.adapter_session.specs.Restored.{numbers}
-use Rattle.adapter_session.specs.Terms.{changed_by, terms_of}
+use Rattle.adapter_session.specs.Terms.{changed_by, function_numbers, terms_of}
 use Rattle.adapter_session.proofs.TermLists.{numbers_same}
 use Rattle.adapter_session.proofs.answering.answer_plainly.Goals as goal
 
@@ -15,8 +14,8 @@ returns-clause-done g c s d there = record {
   terms_are = λ e at.
       let old = terms_of c.args.terms.now in
       let stops = c.stops.result.now in
-      let change = change_of s c.args.program.now old.functions d c.args.request.now in
+      let change = change_of s c.args.program.now (function_numbers old) d c.args.request.now in
       c.change_terms.ensures
-      ∙ ap (λ (one : Option Change). changed_by one (all_numbers stops) old) (c.in_ok-change.ensures s d there ∙ ap (λ (ns : List ℕ). change_of s c.args.program.now ns d c.args.request.now) c.as_slice.ensures.value)
+      ∙ ap (λ (one : Option Change). changed_by one (all_numbers stops) old) (c.in_ok-change.ensures s d there ∙ ap (λ (ns : List ℕ). change_of s c.args.program.now ns d c.args.request.now) (c.as_slice.ensures.value ∙ c.function_numbers-functions.ensures))
       ∙ ap (λ ns. changed_by change ns old) (ap all_numbers c.stops.ensures ∙ numbers_same s _ e.stops at.stops);
 }

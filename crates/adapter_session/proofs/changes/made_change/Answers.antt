@@ -5,5 +5,5 @@ use Rattle.adapter_session.proofs.changes.made_change.Goals as goal
 
 pub returns : goal.returns
 returns c s meant are =
-    let made : ℕ → Change = λ many. record { kind = c.args.kind; staying = many; asked = map asked_view c.args.asked.items } in
+    let made : ℕ → Change = λ many. record { staying = many; asked = map asked_view c.args.asked.items } in
     ap made (c.staying.ensures ∙ staying_is s c.args.kind c.args.functions.now c.args.stops.now meant are)

@@ -1,4 +1,4 @@
-use Rattle.std.proofs.Common.{◌≡◌, suc, ◌+◌, take, ◌<◌, ◌≤◌, ◌++◌, ◌∷◌, [], sym, ap, ◌∙◌, arith, length}
+use Rattle.std.proofs.Common.{◌≡◌, suc, ◌+◌, take, ◌<◌, ◌++◌, ◌∷◌, [], sym, ap, ◌∙◌, arith, length}
 use Rattle.std.proofs.Math.Seq.{take-suc}
 use Rattle.gang_model.specs.Debugger.Debugger.{now, shown_words}
 use Rattle.debug_session.specs.Sessions.{bare}

@@ -1,5 +1,4 @@
 -- so many steps were made
-use Rattle.std.proofs.Common.{◌≡◌}
 use Rattle.gang_model.specs.Debugger.Debugger.{Debugger, Setting}
 use Rattle.debug_session.specs.Sessions.{StandsFor}
 use Rattle.conditional_stops.specs.Views.{table_of}

@@ -1,5 +1,5 @@
-use Rattle.std.proofs.Common.{◌≡◌, Some, List, ◌∷◌, refl, subst, ap, ◌∙◌}
-use Rattle.gang_model.specs.Debugger.Debugger.{Command, DoContinue, DoDelete, Reply, do_command}
+use Rattle.std.proofs.Common.{◌≡◌, Some, ◌∷◌, refl, subst, ap, ◌∙◌}
+use Rattle.gang_model.specs.Debugger.Debugger.{DoContinue, DoDelete, Reply, do_command}
 use Rattle.command_lists.specs.Lists.{HasDone}
 use Rattle.prompt_scenes.specs.Holding.{held}
 use Rattle.prompt_moves.specs.Following.{begun, follows}

@@ -1,5 +1,4 @@
-use Rattle.std.proofs.Common.{◌≡◌, ◌<◌, ◌≤◌, ◌+◌, ℕ, true, false, length, drop, sym, subst, ap, ◌∙◌, arith}
-use Rattle.std.proofs.lemmas.List.{length-drop}
+use Rattle.std.proofs.Common.{◌≡◌, ◌<◌, ◌≤◌, ◌+◌, true, false, length, sym, subst, ◌∙◌, arith}
 use Rattle.prompt_lines.specs.Conditions.{is_if}
 use Rattle.prompt_lines.proofs.Places.{if_inside, passed, reached}
 use Rattle.prompt_lines.proofs.conditions.first_if.Goals as goal

@@ -1,7 +1,7 @@
 use Rattle.std.proofs.Common.{◌≡◌, length, false, sym, ap, ◌∙◌}
 use Rattle.std.specs.Prelude.{◌==◌}
 use Rattle.prompt_lines.specs.Readings.{spelled_option}
-use Rattle.prompt_lines.specs.Words.{letters_or, text_spelled}
+use Rattle.prompt_lines.specs.Lines.{letters_or, text_spelled}
 use Rattle.prompt_lines.proofs.Rows.{filled}
 use Rattle.prompt_lines.proofs.reading.read_line.Goals as goal
 

@@ -1,4 +1,4 @@
-use Rattle.std.proofs.Common.{◌<◌, length, map, take, sym, subst, ap, ◌∙◌, arith, rules}
+use Rattle.std.proofs.Common.{◌<◌, length, map, sym, subst, ap, ◌∙◌, arith, rules}
 use Rattle.std.specs.Prelude.{flat_map}
 use Rattle.std.proofs.lemmas.List.{take_all}
 use Rattle.prompt_texts.specs.Shown.{Puts}

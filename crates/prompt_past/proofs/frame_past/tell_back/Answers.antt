@@ -2,7 +2,6 @@ use Rattle.std.proofs.Common.{◌≡◌, ◌<◌, ◌≤◌, true, false, refl, 
 use Rattle.std.specs.Prelude.{is_none}
 use Rattle.debug_session.specs.Sessions.{StandsFor}
 use Rattle.conditional_stops.specs.Sights.{differ, sight}
-use Rattle.conditional_stops.specs.SightViews.{sight_view}
 use Rattle.prompt_moves.specs.Moments.{led}
 use Rattle.prompt_past.specs.FramePast.{back_to_change}
 use Rattle.prompt_past.proofs.FrameWays.{led_change, led_last_change, led_no_change}

@@ -10,7 +10,7 @@ use Rattle.prompt_stops.specs.Breaking.{watched_as, watched_then}
 use Rattle.prompt_stops.proofs.breaking.watch_target.Goals as goal
 
 pub returns-in-Some : goal.returns-in-Some
-returns-in-Some g c s d st =
+returns-in-Some g c s d st text =
     let stands = g.M.RecordedMachine.stands in
     let h = held c.args.holding.now in
     let target = target_view c.args.target in
@@ -21,7 +21,7 @@ returns-in-Some g c s d st =
     found (c.watch_local.ensures s d st deep)
 
 pub returns-in-None : goal.returns-in-None
-returns-in-None g c s d st =
+returns-in-None g c s d st text =
     let stands = g.M.RecordedMachine.stands in
     let h = held c.args.holding.now in
     let target = target_view c.args.target in

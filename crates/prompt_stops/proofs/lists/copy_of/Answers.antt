@@ -1,4 +1,4 @@
-use Rattle.std.proofs.Common.{◌≡◌, ℕ, List, ap, ◌∙◌, take_all}
+use Rattle.std.proofs.Common.{ℕ, List, ap, ◌∙◌, take_all}
 use Rattle.arrayvec.specs.ArrayVec.{ArrayVec}
 use Rattle.prompt_stops.proofs.lists.copy_of.Goals as goal
 

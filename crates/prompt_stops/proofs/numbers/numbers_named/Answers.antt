@@ -1,6 +1,7 @@
 use Rattle.std.proofs.Common.{◌≡◌, ℕ, Bool, List, ◌++◌, [], map, take, ap, ◌∙◌}
 use Rattle.std.specs.Prelude.{filter}
-use Rattle.conditional_stops.specs.declared.sights.FrameWatch.{FrameWatch}
+use Rattle.conditional_stops.specs.declared.watches.Watch.{Watch}
+use Rattle.conditional_stops.specs.Watches.{watch_number}
 use Rattle.debug_answers.specs.declared.stops.NumberedStop.{NumberedStop}
 use Rattle.prompt_lines.specs.Numbers.{names_number}
 use Rattle.prompt_stops.proofs.Numbered.{added_on, numbers_are}
@@ -10,7 +11,7 @@ pub returns : goal.returns
 returns g c s d st =
     let named : ℕ → Bool = λ n. names_number n c.args.text.now in
     let number : NumberedStop → ℕ = λ e. e.number in
-    let own : FrameWatch → ℕ = λ w. w.number in
+    let own : Watch → ℕ = watch_number in
     let frames = map own c.args.holding.now.frames.items in
     let given = c.args.session.now.stops.items in
     let stops : List ℕ = map number given in

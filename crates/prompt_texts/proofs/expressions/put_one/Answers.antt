@@ -2,7 +2,7 @@ use Rattle.std.proofs.Common.{◌≡◌, ◌<◌, ◌∙◌, sym, ap, subst, tru
 use Rattle.std.specs.Prelude.{if◌then◌else◌}
 use Rattle.std.proofs.lemmas.Bool.{cases_lt}
 use Rattle.gang_types.specs.LaneLaws.{lowest_is, some_lane}
-use Rattle.gang_types.specs.Lanes.{has, lowest, no_lane}
+use Rattle.gang_types.specs.Lanes.{has, lowest}
 use Rattle.gang_types.specs.Masks.{lanes_of}
 use Rattle.gang_types.specs.MaskLaws.{gang_width-le, length-lanes_of_word}
 use Rattle.prompt_texts.specs.Forms.{lane_text}

@@ -1,4 +1,4 @@
-use Rattle.std.proofs.Common.{◌≡◌, ◌≤◌, ◌-◌, false, drop, length, length-set, drop_of_length-le, sym, ap, ◌∙◌, arith}
+use Rattle.std.proofs.Common.{◌≤◌, ◌-◌, false, drop, length, length-set, drop_of_length-le, sym, ap, ◌∙◌, arith}
 use Rattle.std.specs.Prelude.{◌/◌}
 use Rattle.std.specs.Fmt.{digits_onto}
 use Rattle.prompt_texts.proofs.Spelling.{digits_are, further_digits, last_digit, spelled_before}

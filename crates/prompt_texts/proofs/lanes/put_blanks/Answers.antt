@@ -1,4 +1,4 @@
-use Rattle.std.proofs.Common.{replicate, subst, arith}
+use Rattle.std.proofs.Common.{subst}
 use Rattle.std.proofs.lemmas.List.{replicate_more}
 use Rattle.prompt_texts.specs.Shown.{Puts}
 use Rattle.prompt_texts.proofs.Putting.{puts_both}

@@ -7,10 +7,9 @@ use Rattle.prompt_texts.specs.Items.{Tells, is_of_lanes}
 use Rattle.prompt_values.proofs.returned.told_shown.Goals as goal
 
 pub returns-in-Ok : goal.returns-in-Ok
-returns-in-Ok g c s d st got =
+returns-in-Ok g c s d v st there gets =
     let a = c.args in
     let shown = a.shown in
-    let (v, there, gets) = got in
     let words = shown_words (state_at a.depth (now s d)) v in
     let all : shown.count - 0 ≡ shown.count = omega arith in
     record {

@@ -1,8 +1,8 @@
 use Rattle.std.proofs.Common.{◌≡◌, ◌<◌, ◌≤◌, ◌-◌, ◌*◌, ◌+◌, suc, [], true, false, refl, sym, subst, ap, ◌∙◌, arith}
 use Rattle.std.specs.Prelude.{◌^◌}
-use Rattle.gang_model.specs.Debugger.Debugger.{DoStep, do_command, has_ended, now}
+use Rattle.gang_model.specs.Debugger.Debugger.{DoStep, do_command, now}
 use Rattle.debug_session.specs.Sessions.{StandsFor, bare}
-use Rattle.lane_profile.specs.Stands.{stand_of, stands_of}
+use Rattle.lane_profile.specs.Stands.{stands_of}
 use Rattle.prompt_scenes.specs.Readings.{is_here}
 use Rattle.prompt_moves.proofs.MomentLaws.{led_last_step, led_no_step, led_step}
 use Rattle.prompt_walks.specs.LanesTold.{IsFewSoFar, with_later}

@@ -1,7 +1,6 @@
-use Rattle.std.proofs.Common.{◌≡◌, ◌<◌, ◌≤◌, ap, ◌∙◌, arith}
+use Rattle.std.proofs.Common.{◌<◌, arith}
 use Rattle.std.specs.Prelude.{◌^◌}
 use Rattle.lane_counts.specs.Shares.{lost, share}
-use Rattle.prompt_texts.specs.declared.lanes.LaneShare.{LaneShare}
 use Rattle.prompt_walks.proofs.LanesSoFar.{same_told}
 use Rattle.prompt_walks.proofs.lanes_told.share_told.Goals as goal
 

@@ -1,50 +1,98 @@
-use Rattle.std.proofs.Common.{◌∙◌}
+use Rattle.std.proofs.Common.{◌∙◌, inl, inr, refl}
 use Rattle.adapter_server.specs.Serving.{run_of, setup_by}
+use Rattle.adapter_server.specs.Threads.{threads_of}
 use Rattle.adapter_server.proofs.ServedRequests.{follows_asking, follows_beginning}
+use Rattle.adapter_server.proofs.ToldEvents.{replied_same, sent_same}
 use Rattle.adapter_server.proofs.connection.Connection.do_request.Goals as goal
 
 pub returns-in_err-begin-in-ConfigurationDone-clause-done : goal.returns-in_err-begin-in-ConfigurationDone-clause-done
 returns-in_err-begin-in-ConfigurationDone-clause-done g c =
     follows_beginning g.M.RecordedMachine.stands (setup_by c.args.launch.now) c.args.request.now (run_of c.args.session.now c.args.terms.now) (run_of c.ask.new.session c.ask.new.terms) (run_of c.begin.new.session c.begin.new.terms)
-    c.ask.result c.in_ok-answered.answered c.in-ConfigurationDone.is c.in_ok-answered.was c.ask.ensures c.begin.ensures.done
+    c.ask.result c.in_ok-answered.answered c.in-ConfigurationDone.is c.in_ok-answered.was c.ask.ensures.asked c.begin.ensures.done
 
 pub returns-in-ConfigurationDone-clause-done : goal.returns-in-ConfigurationDone-clause-done
 returns-in-ConfigurationDone-clause-done g c =
     follows_beginning g.M.RecordedMachine.stands (setup_by c.args.launch.now) c.args.request.now (run_of c.args.session.now c.args.terms.now) (run_of c.ask.new.session c.ask.new.terms) (run_of c.begin.new.session c.begin.new.terms)
-    c.ask.result c.in_ok-answered.answered c.in-ConfigurationDone.is c.in_ok-answered.was c.ask.ensures c.begin.ensures.done
+    c.ask.result c.in_ok-answered.answered c.in-ConfigurationDone.is c.in_ok-answered.was c.ask.ensures.asked c.begin.ensures.done
 
-pub returns-in_err-reply-3 : goal.returns-in_err-reply-3
-returns-in_err-reply-3 g c = record {
-  done = follows_asking g.M.RecordedMachine.stands (setup_by c.args.launch.now) c.args.request.now (run_of c.args.session.now c.args.terms.now) (run_of c.ask.new.session c.ask.new.terms) c.ask.result c.ask.ensures;
-  messages = c.reply-2.ensures;
-}
+pub returns-in-ConfigurationDone-clause-told : goal.returns-in-ConfigurationDone-clause-told
+returns-in-ConfigurationDone-clause-told g c =
+    inr (inr (record {
+      message = _;
+      replied = c.reply-2.new.self;
+      told = c.tell_of.new.self;
+      middle = run_of c.ask.new.session c.ask.new.terms;
+      reply = replied_same g.O.Write.contents c.args.self.now c.reply-2.new.self c.open_answer-told.new.texts _ c.in_ok-reply-3.ensures.sent;
+      one = record {
+        answered = c.in_ok-answered.answered;
+        does = c.in_ok-answered.ensures.done;
+        sends = sent_same g.M.RecordedMachine.stands g.O.Write.contents (threads_of c.args.launch.now) c.args.launch.now.program.now c.args.request.now c.reply-2.new.self c.tell_of.new.self
+            (run_of c.ask.new.session c.ask.new.terms) c.open_answer-told.result c.in_ok-answered.answered (λ s d. c.open_answer-told.ensures.events (threads_of c.args.launch.now) s d c.reply-2.new.self.stopped) c.in_ok-tell_of.ensures.told;
+      };
+      begins = inr (c.in-ConfigurationDone.is, c.in_ok-begin-in-ConfigurationDone.ensures.told);
+    }))
 
-pub returns-in_err-tell_of : goal.returns-in_err-tell_of
-returns-in_err-tell_of g c = record {
-  done = follows_asking g.M.RecordedMachine.stands (setup_by c.args.launch.now) c.args.request.now (run_of c.args.session.now c.args.terms.now) (run_of c.ask.new.session c.ask.new.terms) c.ask.result c.ask.ensures;
-  messages = c.tell_of.ensures ∙ c.reply-2.ensures;
-}
+pub returns-in-ConfigurationDone-clause-messages : goal.returns-in-ConfigurationDone-clause-messages
+returns-in-ConfigurationDone-clause-messages g c = c.begin.ensures.messages ∙ c.tell_of.ensures.messages ∙ c.reply-2.ensures.messages
 
-pub returns-in_err-tell-in-Terminate : goal.returns-in_err-tell-in-Terminate
-returns-in_err-tell-in-Terminate g c = record {
-  done = follows_asking g.M.RecordedMachine.stands (setup_by c.args.launch.now) c.args.request.now (run_of c.args.session.now c.args.terms.now) (run_of c.ask.new.session c.ask.new.terms) c.ask.result c.ask.ensures;
-  messages = c.tell.ensures ∙ c.tell_of.ensures ∙ c.reply-2.ensures;
-}
+pub returns-in_err-reply-3-clause-done : goal.returns-in_err-reply-3-clause-done
+returns-in_err-reply-3-clause-done g c =
+    follows_asking g.M.RecordedMachine.stands (setup_by c.args.launch.now) c.args.request.now (run_of c.args.session.now c.args.terms.now) (run_of c.ask.new.session c.ask.new.terms) c.ask.result c.ask.ensures.asked
 
-pub returns-in-Terminate : goal.returns-in-Terminate
-returns-in-Terminate g c = record {
-  done = follows_asking g.M.RecordedMachine.stands (setup_by c.args.launch.now) c.args.request.now (run_of c.args.session.now c.args.terms.now) (run_of c.ask.new.session c.ask.new.terms) c.ask.result c.ask.ensures;
-  messages = c.tell.ensures ∙ c.tell_of.ensures ∙ c.reply-2.ensures;
-}
+pub returns-in_err-reply-3-clause-messages : goal.returns-in_err-reply-3-clause-messages
+returns-in_err-reply-3-clause-messages g c = c.reply-2.ensures.messages
 
-pub returns-in-Disconnect : goal.returns-in-Disconnect
-returns-in-Disconnect g c = record {
-  done = follows_asking g.M.RecordedMachine.stands (setup_by c.args.launch.now) c.args.request.now (run_of c.args.session.now c.args.terms.now) (run_of c.ask.new.session c.ask.new.terms) c.ask.result c.ask.ensures;
-  messages = c.tell_of.ensures ∙ c.reply-2.ensures;
-}
+pub returns-in_err-tell_of-clause-done : goal.returns-in_err-tell_of-clause-done
+returns-in_err-tell_of-clause-done g c =
+    follows_asking g.M.RecordedMachine.stands (setup_by c.args.launch.now) c.args.request.now (run_of c.args.session.now c.args.terms.now) (run_of c.ask.new.session c.ask.new.terms) c.ask.result c.ask.ensures.asked
 
-pub returns : goal.returns
-returns g c = record {
-  done = follows_asking g.M.RecordedMachine.stands (setup_by c.args.launch.now) c.args.request.now (run_of c.args.session.now c.args.terms.now) (run_of c.ask.new.session c.ask.new.terms) c.ask.result c.ask.ensures;
-  messages = c.tell_of.ensures ∙ c.reply-2.ensures;
-}
+pub returns-in_err-tell_of-clause-messages : goal.returns-in_err-tell_of-clause-messages
+returns-in_err-tell_of-clause-messages g c = c.tell_of.ensures.messages ∙ c.reply-2.ensures.messages
+
+pub returns-in-Disconnect-clause-done : goal.returns-in-Disconnect-clause-done
+returns-in-Disconnect-clause-done g c =
+    follows_asking g.M.RecordedMachine.stands (setup_by c.args.launch.now) c.args.request.now (run_of c.args.session.now c.args.terms.now) (run_of c.ask.new.session c.ask.new.terms) c.ask.result c.ask.ensures.asked
+
+pub returns-in-Disconnect-clause-told : goal.returns-in-Disconnect-clause-told
+returns-in-Disconnect-clause-told g c =
+    inr (inr (record {
+      message = _;
+      replied = c.reply-2.new.self;
+      told = c.tell_of.new.self;
+      middle = run_of c.ask.new.session c.ask.new.terms;
+      reply = replied_same g.O.Write.contents c.args.self.now c.reply-2.new.self c.open_answer-told.new.texts _ c.in_ok-reply-3.ensures.sent;
+      one = record {
+        answered = c.in_ok-answered.answered;
+        does = c.in_ok-answered.ensures.done;
+        sends = sent_same g.M.RecordedMachine.stands g.O.Write.contents (threads_of c.args.launch.now) c.args.launch.now.program.now c.args.request.now c.reply-2.new.self c.tell_of.new.self
+            (run_of c.ask.new.session c.ask.new.terms) c.open_answer-told.result c.in_ok-answered.answered (λ s d. c.open_answer-told.ensures.events (threads_of c.args.launch.now) s d c.reply-2.new.self.stopped) c.in_ok-tell_of.ensures.told;
+      };
+      begins = inl (λ is. cc, refl, refl);
+    }))
+
+pub returns-in-Disconnect-clause-messages : goal.returns-in-Disconnect-clause-messages
+returns-in-Disconnect-clause-messages g c = c.tell_of.ensures.messages ∙ c.reply-2.ensures.messages
+
+pub returns-clause-done : goal.returns-clause-done
+returns-clause-done g c =
+    follows_asking g.M.RecordedMachine.stands (setup_by c.args.launch.now) c.args.request.now (run_of c.args.session.now c.args.terms.now) (run_of c.ask.new.session c.ask.new.terms) c.ask.result c.ask.ensures.asked
+
+pub returns-clause-told : goal.returns-clause-told
+returns-clause-told g c =
+    inr (inr (record {
+      message = _;
+      replied = c.reply-2.new.self;
+      told = c.tell_of.new.self;
+      middle = run_of c.ask.new.session c.ask.new.terms;
+      reply = replied_same g.O.Write.contents c.args.self.now c.reply-2.new.self c.open_answer-told.new.texts _ c.in_ok-reply-3.ensures.sent;
+      one = record {
+        answered = c.in_ok-answered.answered;
+        does = c.in_ok-answered.ensures.done;
+        sends = sent_same g.M.RecordedMachine.stands g.O.Write.contents (threads_of c.args.launch.now) c.args.launch.now.program.now c.args.request.now c.reply-2.new.self c.tell_of.new.self
+            (run_of c.ask.new.session c.ask.new.terms) c.open_answer-told.result c.in_ok-answered.answered (λ s d. c.open_answer-told.ensures.events (threads_of c.args.launch.now) s d c.reply-2.new.self.stopped) c.in_ok-tell_of.ensures.told;
+      };
+      begins = inl (c.in_default-request.not-ConfigurationDone, refl, refl);
+    }))
+
+pub returns-clause-messages : goal.returns-clause-messages
+returns-clause-messages g c = c.tell_of.ensures.messages ∙ c.reply-2.ensures.messages

@@ -1,5 +1,4 @@
-use Rattle.std.proofs.Common.{◌≡◌, ℕ, List, subst, ap, ◌∙◌}
-use Rattle.std.specs.Prelude.{codes}
+use Rattle.std.proofs.Common.{ℕ, List, subst, ap, ◌∙◌}
 use Rattle.prompt_lines.specs.Readings.{spelled}
 use Rattle.prompt_scenes.specs.declared.holding.LastMove.{LastMove}
 use Rattle.prompt_scenes.specs.Holding.{Held, held, sheet}

@@ -1,0 +1,131 @@
+//! Watches of what frames show, of variables and of expressions: what they show is noted, and compared.
+ghost use Rattle.std.specs.Prelude.{◌≡◌, ◌∷◌, List, drop, map, Some, option_map, OnOk, IfOk};
+ghost use Rattle.gang_model.specs.Debugger.Debugger.{Debugger, Setting};
+ghost use Rattle.debug_session.specs.Sessions.{bare};
+ghost use Rattle.conditional_stops.specs.Watches as spec;
+ghost use Rattle.conditional_stops.specs.SightViews.{seen_view, sights_view};
+
+use crate::sights::{FrameWatch, Sight, differ, sight, words_of};
+use expression_watches::{ExpressionWatch, LaneSight, expression_sight, lanes_differ};
+use frame_expressions::ExpressionMachine;
+use std::alloc::{AllocError, Global};
+
+/// A watch of what a frame shows.
+#[derive(Drop)]
+pub enum Watch {
+    /// A variable, or one of its lanes or elements.
+    Variable(FrameWatch),
+    /// An expression.
+    Expression(ExpressionWatch),
+}
+
+/// The blank in an unused place.
+impl Default for Watch {
+    ghost is_default = { λ watch. spec.watch_number watch ≡ 0 };
+
+    fn default() -> Self {
+        Watch::Variable(FrameWatch::default())
+    }
+}
+
+impl Watch {
+    /// The number of the watch.
+    pub fn number(&self) -> u32
+        ensures { result ≡ spec.watch_number self.now }
+    {
+        match self {
+            Watch::Variable(watch) => watch.number,
+            Watch::Expression(watch) => watch.number,
+        }
+    }
+
+    /// The depth of its frame.
+    pub fn depth(&self) -> usize
+        ensures { result ≡ spec.watch_depth self.now }
+    {
+        match self {
+            Watch::Variable(watch) => watch.depth,
+            Watch::Expression(watch) => watch.depth,
+        }
+    }
+}
+
+/// What a watch shows.
+#[derive(Drop)]
+pub(crate) enum Sighted {
+    /// The words of a variable, if it shows any.
+    Words(Sight),
+    /// Of an expression a word for each lane that shows one.
+    InLanes(LaneSight),
+}
+
+/// What each watch showed, in their order.
+pub(crate) type Sights = Vec<Sighted>;
+
+/// Notes what each watch shows.
+///
+/// # Errors
+///
+/// Out of memory.
+pub(crate) fn note_sights<M: ExpressionMachine>(
+    alloc: Global,
+    machine: &M,
+    watches: &[Watch],
+    sights: &mut Sights,
+) -> Result<(), AllocError>
+    ensures { (s : Setting) (d : Debugger) → M.stands machine.now s (bare d) → OnOk result (sights_view sights.new.items ≡ map (spec.seen s d) watches.now) }
+{
+    sights.clear();
+    for watch in watches {
+        let shown = shown_by(alloc, machine, watch)?;
+        sights.push(shown)?;
+    }
+    Ok(())
+}
+
+/// What a watch shows.
+///
+/// # Errors
+///
+/// Out of memory, for an expression.
+fn shown_by<M: ExpressionMachine>(
+    alloc: Global,
+    machine: &M,
+    watch: &Watch,
+) -> Result<Sighted, AllocError>
+    ensures { (s : Setting) (d : Debugger) → M.stands machine.now s (bare d) → IfOk result (λ shown. seen_view shown ≡ spec.seen s d watch.now) }
+{
+    match watch {
+        Watch::Variable(watch) => Ok(Sighted::Words(sight(machine, watch))),
+        Watch::Expression(watch) => {
+            let shown = expression_sight(alloc, watch, machine)?;
+            Ok(Sighted::InLanes(shown))
+        }
+    }
+}
+
+/// What was noted at a place.
+pub(crate) fn noted_sight(sights: &Sights, place: usize) -> Option<&Sighted>
+    ensures { (old : spec.Seen) (others : List spec.Seen) → drop place (sights_view sights.now.items) ≡ old ∷ others
+        → option_map (λ shown. seen_view shown.now) result ≡ Some old }
+{
+    match sights.get(place) {
+        Some(noted) => Some(noted),
+        None => None,
+    }
+}
+
+/// Whether a watch showed another value before.
+pub(crate) fn has_changed(before: &Sighted, now: &Sighted) -> bool
+    ensures { result ≡ spec.changed (seen_view before.now) (seen_view now.now) }
+{
+    match (before, now) {
+        (Sighted::Words(before), Sighted::Words(now)) => differ(words_of(before), now),
+        (Sighted::InLanes(before), Sighted::InLanes(now)) => {
+            lanes_differ(before.as_slice(), now.as_slice())
+        }
+        (Sighted::Words(_), Sighted::InLanes(_)) | (Sighted::InLanes(_), Sighted::Words(_)) => {
+            false
+        }
+    }
+}
