@@ -1,4 +1,4 @@
-"""proved.txt: a line for each crate of which all steps have passed, with what it was then and how it was judged.
+"""proved.txt: a line for each crate of which all steps have passed, with what it was then, how it was judged and with which toolchain.
 
 A landing takes a crate whose line says what it would say now as judged, without the store. Some of them it judges all the same, from nothing:
 which ones follows from the digest of the commit.
@@ -24,6 +24,11 @@ def identity():
     return rtlib.text_of(f"{rt.KIT}/KIT-ID").strip()
 
 
+def toolchain():
+    """Returns the toolchain's name, by which its lines are told from those of others."""
+    return identity().split()[0]
+
+
 def digests_of(crates):
     """Returns a digest of all that each crate's proof and tests rest on, which is the same on every machine.
 
@@ -44,23 +49,34 @@ def digests_of(crates):
 def line(crate, digest, steps, judges):
     """Returns the line of a crate: a digest with its edits and what its program is run on, the steps, and digests of what judges them."""
     whole = sum_of((digest,), crate.folder, ("must-fail", *RUN))[:16]
-    return f"{crate.name} {whole} {', '.join(steps)} by {' '.join(it[:8] for it in judges)}\n"
+    return f"{crate.name} {whole} {', '.join(steps)} by {' '.join(it[:8] for it in judges)} with {toolchain()}\n"
 
 
 def lines(root):
-    """Returns the lines of the file by the names of their crates."""
+    """Returns the lines of the file, those of all toolchains."""
     text = rtlib.text_of(f"{root}/{FILE}") or ""
-    return {it.split()[0]: it for it in text.splitlines(True) if it.strip() and not it.startswith("#")}
+    return {it for it in text.splitlines(True) if it.strip() and not it.startswith("#")}
+
+
+def named_in(line):
+    """Returns the crate and the toolchain of a line."""
+    words = line.split()
+    return words[0], words[-1]
 
 
 def write(root, found):
-    """Writes the file anew, where it says something else, and returns the names whose lines are new or other, and those whose lines went."""
+    """Writes the file anew, where it says something else, and returns the names whose lines are new or other, and those whose lines went.
+
+    The lines of other toolchains stay: none of this one can say whether they still fit. Those of crates that are gone go.
+    """
     before = lines(root)
-    if found != before:
+    ours = {it for it in before if named_in(it)[1] == toolchain()}
+    others = {it for it in before - ours if os.path.isdir(f"{root}/crates/{named_in(it)[0]}")}
+    if others | {*found.values()} != before:
         with open(f"{root}/{FILE}.new", "w", encoding="utf-8") as it:
-            it.write(HEAD + "".join(found[name] for name in sorted(found)))
+            it.write(HEAD + "".join(sorted({*others, *found.values()}, key=named_in)))
         os.replace(f"{root}/{FILE}.new", f"{root}/{FILE}")
-    return [it for it in sorted(found) if before.get(it) != found[it]], sorted({*before} - {*found})
+    return [it for it in sorted(found) if found[it] not in ours], sorted({named_in(it)[0] for it in ours} - {*found})
 
 
 def seed(root):

@@ -8,6 +8,8 @@ import shutil
 import subprocess
 import sys
 
+import older
+
 
 class Timed(subprocess.Popen):
     """A process whose processor seconds are added up under the crate that its words name. (Python tells of all children in one sum.)"""
@@ -38,6 +40,7 @@ def load():
     made = importlib.util.module_from_spec(importlib.util.spec_from_loader("rt", loader))
     made.__file__, sys.modules["rt"] = file, made
     loader.exec_module(made)
+    older.completed(made, made.rtlib)
     return made, made.rtlib
 
 

@@ -50,6 +50,8 @@ pub fn at_most_7(a: u32) -> u32
 }
 # Of each crate a body, and a wrong one.
 BODIES = {LOWER: ("if a < b { a } else { b }", "a"), UPPER: ("smaller(a, 7)", "smaller(a, 8)")}
+# Lines of another toolchain: of a crate that is there, and of one that is not.
+OTHERS = tuple(f"{it} 0123456789abcdef proof, 1 edits by 01234567 89abcdef with another-kit" for it in (LOWER, "gone"))
 # The landing without the trial of its judges, with so many crates drawn; and one that only writes the lines of the crates as they stand.
 LANDS = """\
 import runpy, sys
@@ -101,10 +103,13 @@ class Small:
         return (output + errors).decode(errors="replace"), status
 
     def lines(self):
-        """The lines of proved.txt by their crates."""
+        """The lines of proved.txt by their crates, but those of another toolchain."""
+        return {it.split()[0]: it for it in self.all_lines() if it not in OTHERS}
+
+    def all_lines(self):
         file = self.root / FILE
         text = file.read_text(encoding="utf-8") if file.is_file() else ""
-        return {it.split()[0]: it for it in text.splitlines() if not it.startswith("#")}
+        return [it for it in text.splitlines() if not it.startswith("#")]
 
     def lands(self, what, end, made, drawn=0, program=LANDS, words=()):
         """A landing ends with this line, and makes these steps alone."""
@@ -141,9 +146,11 @@ def lines_that_stand(small):
     small.forget()
     small.lands("both lines stand", "4 passed, 0 failed", [])
     small.must("the lines stay", small.lines() == first)
+    write(small.root / FILE, "".join(f"{it}\n" for it in [*first.values(), *OTHERS]))
     small.change(UPPER, "A number that is", "Some number that is")
     small.lands("the upper one changed", "4 passed, 0 failed", [f"{LOWER}: proof", f"{UPPER}: proof", f"{UPPER}: edit"])
     small.must("its line alone is other", small.lines()[LOWER] == first[LOWER] and small.lines()[UPPER] != first[UPPER])
+    small.must("of another toolchain's lines the one of a crate that is there stays", [it for it in small.all_lines() if it in OTHERS] == [OTHERS[0]])
     small.change(LOWER, "The smaller of", "What is smaller of")
     listed, _ = small.called(LANDS, "0", "--list")
     small.must(f"with the lower one both are to be judged: {listed}", all(f"{it}: proof, 1 edits" in listed.splitlines() for it in SOURCES))
