@@ -20,7 +20,7 @@ def completed(rt, rtlib):
     if "aside" in inspect.signature(rt.crates_of).parameters:
         rt.crates_of = functools.partial(crates_of, rt, rtlib, rt.crates_of)
     if not hasattr(rt, "kit_sum"):
-        rt.kit_sum = functools.cache(functools.partial(kit_sum, rt))
+        rt.kit_sum = KitSum(rt.KIT)
     if not hasattr(rt, "stamp_of"):
         rt.stamp_of = functools.partial(stamp_of, rt, rtlib)
     if not hasattr(rt, "linked"):
@@ -49,14 +49,34 @@ def named_twice(file, to):
         shutil.copy2(file, to, follow_symlinks=False)
 
 
-def kit_sum(rt):
-    """Returns a digest of the toolchain: its files with their sizes and times."""
+class KitSum:
+    """A digest of the toolchain: its files with their sizes and times.
+
+    There are so many that all are looked at once in a run, and again only where one of its programs has changed.
+    """
+
+    def __init__(self, kit):
+        self.kit, self.whole, self.programs, self.is_fresh = kit, None, None, False
+
+    def __call__(self):
+        if not self.is_fresh:
+            before, self.programs, self.is_fresh = self.programs, sum_of_files(f"{self.kit}/bin"), True
+            if self.programs != before:
+                self.whole = sum_of_files(self.kit)
+        return self.whole
+
+    def cache_clear(self):
+        self.is_fresh = False
+
+
+def sum_of_files(top):
+    """Returns a digest of the names, sizes and times of all files below a folder."""
     made = hashlib.sha256()
-    for at, folders, names in os.walk(rt.KIT):
+    for at, folders, names in os.walk(top):
         folders.sort()
         for name in sorted(names):
             about = os.lstat(f"{at}/{name}")
-            made.update(repr((os.path.relpath(f"{at}/{name}", rt.KIT), about.st_size, about.st_mtime_ns)).encode())
+            made.update(repr((os.path.relpath(f"{at}/{name}", top), about.st_size, about.st_mtime_ns)).encode())
     return made.hexdigest()
 
 

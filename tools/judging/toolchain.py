@@ -1,6 +1,7 @@
 """The toolchain's own gate as a module, what it sums of a crate, and what it wants of a repository's files."""
 
 import collections
+import contextlib
 import importlib.machinery
 import importlib.util
 import os
@@ -74,14 +75,24 @@ def digests_of(crates):
     return {it.name: rt.stamp_of(it, seen) for it in crates}
 
 
+@contextlib.contextmanager
+def held(crate):
+    """Waits until no other run of the toolchain works in a crate's folder, and keeps others out meanwhile."""
+    files = rtlib.lock([crate])
+    try:
+        yield
+    finally:
+        for it in files:
+            os.close(it)
+
+
 def crates_at(root):
-    """Returns the repository's crates, lowest first, held until this run ends, where its files are as the toolchain's gate wants them."""
+    """Returns the repository's crates, lowest first, where its files are as the toolchain's gate wants them."""
     for it in (rtlib.ALLOW_C, rtlib.BACKEND, "RT_SECONDS"):
         os.environ.pop(it, None)
     rtlib.guarded()
     rt.Crate.allowed = rt.handles_of(root)
     crates = rt.crates_of(root)
-    crates_at.held = rtlib.lock(crates)
     for name in sorted(os.listdir(root)):
         if name != ".git" and os.path.isdir(f"{root}/{name}"):
             rtlib.stop_on_unread(f"{root}/{name}", crates)

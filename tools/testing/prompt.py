@@ -1,9 +1,10 @@
-"""The built program with a user who waits: each answer is there before the next command is sent, over a pipe and over a terminal; and nothing
-is read after `quit` beyond what was read at once."""
+"""The built program with a user who waits: each answer is there before the next command is sent, over a pipe and over a terminal; nothing is
+read after `quit` beyond what was read at once; and the answers to what was read at once are written at once."""
 
 import os
 import pathlib
 import select
+import socket
 import subprocess
 import tempfile
 import tty
@@ -105,9 +106,25 @@ def read_by_then(built):
     return Result("nothing is read after `quit`", not why, why)
 
 
+def written_together(built):
+    """The answers to the lines that end in one read are one write: on a device that keeps writes apart there are as many as reads that had lines."""
+    refused, whole = b"C3 NoHistory\n", AT_ONCE // len(b"undo\n")
+    ours, theirs = socket.socketpair(socket.AF_UNIX, socket.SOCK_SEQPACKET)
+    with tempfile.TemporaryDirectory(prefix="together-") as folder, tempfile.TemporaryFile() as commands, ours, theirs:
+        pathlib.Path(folder, "first.ispc").write_bytes(program.FIRST)
+        commands.write(b"undo\n" * (whole + 40))
+        commands.seek(0)
+        ran = subprocess.run([built, "first.ispc"], cwd=folder, env={}, stdin=commands, stdout=theirs)
+        theirs.close()
+        written = list(iter(lambda: ours.recv(65_536), b""))
+    is_right = ran.returncode == 0 and written == [refused * whole, refused * 40]
+    why = [] if is_right else [f"status {ran.returncode}, {len(written)} writes of {[len(it) for it in written[:9]]} bytes"]
+    return Result("the answers to one read are one write", not why, why)
+
+
 def results(root, built):
     session = kinds.session(root)
     ours, theirs = os.openpty()
     tty.setraw(theirs)
     found = [asked(built, "over a pipe", session, *os.pipe()), asked(built, "over a terminal", session, ours, theirs)]
-    return [*found, quits(built), read_by_then(built)]
+    return [*found, quits(built), read_by_then(built), written_together(built)]

@@ -1,4 +1,5 @@
 mod CutLines
+mod Gathering
 mod LineAnswers
 mod PieceAnswers
 mod SessionLines

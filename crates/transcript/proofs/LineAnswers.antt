@@ -46,7 +46,7 @@ no_quit false some none = (refl, none)
 quits_no_go : Quits ≢ Goes
 quits_no_go e = cc e
 
-fails_no_go : Fails ≢ Goes
+pub fails_no_go : Fails ≢ Goes
 fails_no_go e = cc e
 
 module _ (s : Setting) where
@@ -124,6 +124,13 @@ module _ (s : Setting) where
         ),
       )
 
+  -- a front of what is written for some lines and for others, which is not all of it
+  pub written_front : (d : Debugger) (xs ys : List Bytes) (replies more : List Reply) (out : Bytes) (k : ℕ) → Written s d xs replies Goes out
+      → AreReplies s ys (after_replies d replies) more → k < length (out ++ reply_texts s more) → Written s d (xs ++ ys) (replies ++ more) Fails (take k (out ++ reply_texts s more))
+  written_front d xs ys replies more out k (are, (none, is)) are' below =
+      let all : out ++ reply_texts s more ≡ reply_texts s (replies ++ more) = ap (λ l. l ++ reply_texts s more) is ∙ sym (texts_both replies more) in
+      (replies_later xs ys d replies more none are are', (k, subst (λ l. k < length l) all below, ap (take k) all))
+
   -- after some lines, others
   pub answers_then : (d : Debugger) (xs ys : List Bytes) (replies more : List Reply) (turn : Turn) (old mid new : Option Bytes) → AnswersBy s d xs replies Goes old mid
       → AnswersBy s (after_replies d replies) ys more turn mid new → AnswersBy s d (xs ++ ys) (replies ++ more) turn old new
@@ -166,7 +173,7 @@ module _ (s : Setting) where
   says_of stands d line Quits next old new says = says
   says_of stands d line Fails next old new says = says
 
-  reply_alone : (q : Bool) (c : Option Command) (d : Debugger) (r : Reply) → q ≡ false → IsReplyTo s c d r → FirstAndRest s q c d (λ d rs. AreReplies s [] d rs) (r ∷ [])
+  pub reply_alone : (q : Bool) (c : Option Command) (d : Debugger) (r : Reply) → q ≡ false → IsReplyTo s c d r → FirstAndRest s q c d (λ d rs. AreReplies s [] d rs) (r ∷ [])
   reply_alone true c d r goes is = absurd (true≢false goes)
   reply_alone false c d r goes is = (is, refl)
 
@@ -178,7 +185,7 @@ module _ (s : Setting) where
   quits_alone true quits e = e
   quits_alone false quits e = e
 
-  text_alone : (r : Reply) → reply_texts s (r ∷ []) ≡ reply_text s r
+  pub text_alone : (r : Reply) → reply_texts s (r ∷ []) ≡ reply_text s r
   text_alone r = append-nil (reply_text s r)
 
   -- the line was answered by a reply, after which the debugger stands

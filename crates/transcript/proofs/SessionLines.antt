@@ -9,8 +9,10 @@ use Rattle.debug_answers.specs.Meanings.{Means}
 use Rattle.debug_session.specs.declared.session.Session.{Session}
 use Rattle.debug_session.specs.Sessions.{RepliesOn, RepliesTo, StandsFor}
 use Rattle.transcript.specs.Lines.{Says, Tells, quits, reply_text}
+use Rattle.transcript.specs.Gathering.{AddsOrFails, SaysBehind}
 use Rattle.transcript.specs.declared.debugger.Turn.{Turn}
 use Rattle.transcript.specs.declared.debugger.Turn.TheVariants.{Goes, Quits, Fails}
+use Rattle.transcript.proofs.Gathering.{says_added}
 
 -- a machine that never wants for memory where a value is set replies as the definitions say
 surely : (may_want : Type 0) (s : Setting) (command : Command) (d : Debugger) (r : Reply) → (may_want → ⊥) → RepliesOn may_want s command d r → IsReply s command d r
@@ -36,3 +38,19 @@ module _ {M : Type 0} (stands : M → Setting → Debugger → Type 0) (s : Sett
   pub says_bad : None ≡ command_of line → StandsFor stands new s d → (turn : Turn) → Tells (reply_text s (refused BadCommand d)) w w' turn
       → Says (λ session s d. StandsFor stands session s d) s d line turn new w w'
   says_bad spells st turn tells = says_reply (refused BadCommand d) (subst (λ c. IsReplyTo s c d (refused BadCommand d)) spells refl) st turn tells
+
+module _ {M : Type 0} (stands : M → Setting → Debugger → Type 0) (s : Setting) (d : Debugger) (line : Bytes) (new : Session M) (w w' : Option Bytes) (room room' : Bytes) (goes : quits line ≡ false) where
+  -- the reply of a session to a command, behind what is gathered
+  pub adds_replies : (may_want : Type 0) → (may_want → ⊥) → (command : Command) (given : Answer) → Some command ≡ command_of line → RepliesTo may_want stands s command d given new → (turn : Turn)
+      → ((r : Reply) → StandsFor stands new s r.next → Means s r.next given r.answer → AddsOrFails (reply_text s r) w w' room room' turn)
+      → SaysBehind (λ session s d. StandsFor stands session s d) s d line turn new w w' room room'
+  adds_replies may_want never command given spells replies turn adds =
+      let r = replies.reply in
+      says_added (λ session s d. StandsFor stands session s d) s d line new w w' room room' r goes (subst (λ c. IsReplyTo s c d r) spells (surely may_want s command d r never replies.is_reply)) replies.replied.there turn
+      (adds r replies.replied.there replies.replied.means)
+
+  -- that to a line that spells no command
+  pub adds_bad : None ≡ command_of line → StandsFor stands new s d → (turn : Turn) → AddsOrFails (reply_text s (refused BadCommand d)) w w' room room' turn
+      → SaysBehind (λ session s d. StandsFor stands session s d) s d line turn new w w' room room'
+  adds_bad spells st turn adds =
+      says_added (λ session s d. StandsFor stands session s d) s d line new w w' room room' (refused BadCommand d) goes (subst (λ c. IsReplyTo s c d (refused BadCommand d)) spells refl) st turn adds

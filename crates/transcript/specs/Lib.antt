@@ -1,4 +1,5 @@
 pub mod Answered
 pub mod Endings
+pub mod Gathering
 pub mod Lines
 pub mod Order

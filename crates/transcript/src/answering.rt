@@ -1,15 +1,17 @@
 //! The loop that reads command lines in pieces and has each answered.
-ghost use Rattle.std.specs.Prelude.{◌≡◌, ◌⊎◌, ◌+◌, ◌≤◌, ℕ, true, false, List};
+ghost use Rattle.std.specs.Prelude.{◌≡◌, ◌⊎◌, ◌+◌, ◌≤◌, ℕ, true, false, List, []};
 ghost use Rattle.std.specs.Io.KnownBytes.{Appends};
 ghost use Rattle.gang_model.specs.Debugger.Debugger.{Debugger, Setting};
 ghost use Rattle.gang_model.specs.Texts.Endings.{Ends};
 ghost use Rattle.gang_model.specs.Texts.Text.{Bytes};
 ghost use Rattle.transcript.specs.Lines.{fails};
 ghost use Rattle.transcript.specs.Answered.{AnswersLines, AnswersPiece, held_of, line_alone};
+ghost use Rattle.transcript.specs.Gathering.{GathersPiece, gathered, lacks_room};
 ghost use Rattle.transcript.specs.Endings.{end_of, ending_of};
 ghost use Rattle.transcript.specs.Order.{TakesTurns};
 
 use crate::debugger::{LineDebugger, Turn};
+use crate::room::Room;
 use arrayvec::ArrayVec;
 use debug_traits::{AnswerWriter, CommandReader, READS};
 
@@ -68,11 +70,12 @@ pub fn answer_lines<D: LineDebugger, R: CommandReader<O>, O: AnswerWriter>(
 {
     let mut piece = [0; 512];
     let mut line = ArrayVec::new();
+    let mut room = Room::new();
     for _count in 0..READS {
         match reader.read(&mut piece, writer) {
             Err(_) => return Ending::ReadFault,
             Ok(0) => return Ending::after(answer_last_line(debugger, &line, writer)),
-            Ok(n) => match answer_piece(debugger, &mut line, &piece[..n], writer) {
+            Ok(n) => match answer_piece(debugger, &mut line, &piece[..n], &mut room, writer) {
                 Turn::Goes => {}
                 turn => return Ending::after(turn),
             },
@@ -82,20 +85,51 @@ pub fn answer_lines<D: LineDebugger, R: CommandReader<O>, O: AnswerWriter>(
 }
 
 /// Answers the lines that end in a piece, and holds the front of the line that has begun.
+/// No answer is kept back.
 fn answer_piece<D: LineDebugger, O: AnswerWriter>(
     debugger: &mut D,
     line: &mut ArrayVec<u8, HELD>,
     piece: &[u8],
+    room: &mut Room,
     writer: &mut O,
 ) -> Turn
     requires works { O.has_failed writer.old ≡ false }
+    requires none { gathered room.old ≡ [] }
+    requires room { lacks_room room.old ≡ false }
     ensures answered { (s : Setting) (d : Debugger) (begun : Bytes) → D.stands debugger.old s d → line.old.items ≡ held_of begun
         → AnswersPiece D.stands s d begun piece.now result debugger.new line.new.items (O.written writer.old) (O.written writer.new) }
     ensures failed { O.has_failed writer.new ≡ fails result }
+    ensures none { result ≡ Turn.Goes → gathered room.new ≡ [] }
+    ensures room { lacks_room room.new ≡ false }
+{
+    match gather_piece(debugger, line, piece, room, writer) {
+        Turn::Fails => Turn::Fails,
+        turn => match room.give_out(writer) {
+            Ok(()) => turn,
+            Err(_) => Turn::Fails,
+        },
+    }
+}
+
+/// Does as `answer_piece`, but the last answers may still be gathered.
+fn gather_piece<D: LineDebugger, O: AnswerWriter>(
+    debugger: &mut D,
+    line: &mut ArrayVec<u8, HELD>,
+    piece: &[u8],
+    room: &mut Room,
+    writer: &mut O,
+) -> Turn
+    requires works { O.has_failed writer.old ≡ false }
+    requires none { gathered room.old ≡ [] }
+    requires room { lacks_room room.old ≡ false }
+    ensures answered { (s : Setting) (d : Debugger) (begun : Bytes) → D.stands debugger.old s d → line.old.items ≡ held_of begun
+        → GathersPiece D.stands s d begun piece.now result debugger.new line.new.items (O.written writer.old) (O.written writer.new) (gathered room.new) }
+    ensures failed { O.has_failed writer.new ≡ fails result }
+    ensures room { lacks_room room.new ≡ false }
 {
     for byte in piece {
         if *byte == LINE_FEED {
-            match debugger.answer_line(line.as_slice(), writer) {
+            match debugger.gather_answer(line.as_slice(), room, writer) {
                 Turn::Goes => line.clear(),
                 turn => return turn,
             }

@@ -7,8 +7,10 @@ ghost use Rattle.debug_traits.specs.Devices.{Writes};
 ghost use Rattle.debug_answers.specs.Meanings.{Means};
 ghost use Rattle.debug_session.specs.Sessions.{StandsFor};
 ghost use Rattle.transcript.specs.Lines.{Tells, fails};
+ghost use Rattle.transcript.specs.Gathering.{AddsOrFails, gathered, lacks_room};
 
 use crate::debugger::{LineDebugger, Turn};
+use crate::room::Room;
 use debug_answers::{Answer, Refusal};
 use debug_commands::{Command, read_command};
 use debug_session::Session;
@@ -27,6 +29,22 @@ impl<M: PokesSurely> LineDebugger for Session<M> {
                 tell(&answer, self, writer)
             }
             None => tell(&Answer::Refused(Refusal::BadCommand), self, writer),
+        }
+    }
+
+    fn gather_answer<O: AnswerWriter>(
+        &mut self,
+        line: &[u8],
+        room: &mut Room,
+        writer: &mut O,
+    ) -> Turn {
+        match read_command(line) {
+            Some(Command::Quit) => Turn::Quits,
+            Some(command) => {
+                let answer = self.do_command(command);
+                gather(&answer, self, room, writer)
+            }
+            None => gather(&Answer::Refused(Refusal::BadCommand), self, room, writer),
         }
     }
 }
@@ -62,6 +80,31 @@ fn tell<M: RecordedMachine, O: AnswerWriter>(
 {
     match write_answer(answer, session, writer) {
         Ok(()) => Turn::Goes,
+        Err(_) => Turn::Fails,
+    }
+}
+
+/// Gathers an answer of a session, or writes it behind what is gathered where it finds no room. Says what the line led to.
+fn gather<M: RecordedMachine, O: AnswerWriter>(
+    answer: &Answer<'_>,
+    session: &Session<M>,
+    room: &mut Room,
+    writer: &mut O,
+) -> Turn
+    requires works { O.has_failed writer.old ≡ false }
+    requires room { lacks_room room.old ≡ false }
+    ensures said { (s : Setting) (d : Debugger) (meant : model.Answer) → StandsFor M.stands session.now s d → Means s d answer.now meant
+        → AddsOrFails (text s meant d) (O.written writer.old) (O.written writer.new) (gathered room.old) (gathered room.new) result }
+    ensures failed { O.has_failed writer.new ≡ fails result }
+    ensures room { lacks_room room.new ≡ false }
+{
+    let length = room.length();
+    if write_answer(answer, session, room).is_ok() {
+        return Turn::Goes;
+    }
+    room.shorten(length);
+    match room.give_out(writer) {
+        Ok(()) => tell(answer, session, writer),
         Err(_) => Turn::Fails,
     }
 }

@@ -8,13 +8,13 @@ use Rattle.transcript.proofs.answering.answer_lines.Goals as goal
 
 pub loop-count-init : goal.loop-count-init
 loop-count-init g c =
-    (omega arith, ([], Consumes-nil _, (λ s d st. piece_none g.D.LineDebugger.stands s d [] _ _ _ st c.new-line.ensures), c.requires.fresh, c.requires.reader_works, c.requires.writer_works, no_turn (λ s d. g.D.LineDebugger.stands c.args.debugger.now s d) _ _))
+    ((omega arith, c.new-room.ensures.none, c.new-room.ensures.works), ([], Consumes-nil _, (λ s d st. piece_none g.D.LineDebugger.stands s d [] _ _ _ st c.new-line.ensures), c.requires.fresh, c.requires.reader_works, c.requires.writer_works, no_turn (λ s d. g.D.LineDebugger.stands c.args.debugger.now s d) _ _))
 
 pub loop-count-preserved : goal.loop-count-preserved
 loop-count-preserved g c =
     let (pieces, (came, used, answered, reads, r, w, turns)) = c.loop-count.invariant in
     let piece = take c.in-Ok.n c.read.new.into in (
-      search rules,
+      (search rules, c.in-Goes.ensures.none refl, c.in-Goes.ensures.room),
       (
         came ++ piece,
         Consumes-trans _ _ _ came piece used c.in-Ok.ensures.bytes.0,
