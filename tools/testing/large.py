@@ -1,7 +1,7 @@
-"""The built program on large texts: sources of 65,536 bytes of each shape, each compiled in time that grows as they do; an input of a million
-values; and a million command lines, answered in little memory.
+"""The built program on large texts: sources of 65,536 bytes of each shape, each compiled in time that grows as they do; reports of chains of
+calls; an input of a million values; and a million command lines, answered in little memory.
 
-A source takes half a second of the processor at most, and the input two.
+A source takes half a second of the processor at most, with its report too, and the input two.
 """
 
 import os
@@ -117,6 +117,28 @@ def compiled(program, folder, name, text, few, refusal):
     return Result(f"{len(text)} bytes of {name}", not why, why)
 
 
+def chains(most=MOST_BYTES):
+    """Sources of functions of which each calls the next one, or the one before it, with the answer that all have: that of the last one called."""
+    called = lambda number, other: f"int f{number}(int i){{ int x = f{other}(i); return x; }}\n"
+    last = {"yes": "{ return i; }", "no": "{ return programCount; }"}
+    for answer, body in last.items():
+        back = repeated(most, f"int f0(int i){body}\n", lambda number: called(number + 1, number), EMPTY)
+        count = back.count("return") - 1
+        yield "backwards", answer, back
+        yield "forwards", answer, "".join(called(it, it + 1) for it in range(count)) + f"int f{count}(int i){body}\n" + EMPTY
+
+
+def reported(program, folder, name, answer, text):
+    """The report of a chain of calls says the same of all its functions, in half a second."""
+    file = pathlib.Path(folder, "chain.ispc")
+    file.write_text(text)
+    seconds, status, output, errors = ended([program, file, "--lane-pure"], b"")
+    *lines, entry = output.decode().splitlines() or [""]
+    is_right = (status, errors) == (0, b"") and len(lines) > 1000 and all(it.endswith(f": {answer}") for it in lines) and entry.endswith(" go: yes")
+    why = [] if is_right and seconds <= SECONDS else [f"status {status}, {errors!r}, {len(lines)} lines, {seconds:.2f} seconds"]
+    return Result(f"the report of {len(text)} bytes of calls {name}, all {answer}", not why, why)
+
+
 def least_space(program, file):
     """The least address space, up to a page, in which the lines are answered once; and their answers."""
     _, status, once, _ = ended([program, file], LINES)
@@ -169,4 +191,4 @@ def tasks(program):
     """A task for each source, and one for the inputs."""
     pairs = zip(shapes(), shapes(MOST_BYTES // PART))
     sources = [of(compiled, program, name, text, few, refusal) for (name, text, refusal), (_, few, _) in pairs]
-    return [of(inputs, program), *sources]
+    return [of(inputs, program), *sources, *(of(reported, program, *it) for it in chains())]

@@ -1,3 +1,4 @@
-pub mod Marking
-pub mod Purity
+mod Calling
+mod Purity
 mod Rows
+mod Spreading

@@ -1,6 +1,6 @@
 -- The functions among the items of a source, from one item on.
-use Rattle.std.proofs.Common.{◌≡◌, ℕ, ◌+◌, ◌<◌, ◌≤◌, List, [], ◌∷◌, length, map, drop, get_or, sym, ap, ◌∙◌}
-use Rattle.std.proofs.lemmas.List.{drop_all, drop_more}
+use Rattle.std.proofs.Common.{◌≡◌, ℕ, ◌+◌, ◌<◌, List, ◌∷◌, length, map, drop, get_or, sym, ap, ◌∙◌}
+use Rattle.std.proofs.lemmas.List.{drop_more}
 use Rattle.gang_model.specs.Source.Parsed.{ParsedFunction, functions_in}
 use Rattle.source_tree.specs.declared.tree.Function.{Function}
 use Rattle.source_tree.specs.declared.tree.GlobalVariable.{GlobalVariable}
@@ -19,6 +19,3 @@ module _ (items : List Item) (i : ℕ) (x : Item) (below : i < length items) (at
   -- or this item is none
   pub variable_first : (g : GlobalVariable) → x ≡ item.Global g → functions_from items i ≡ functions_from items (i + 1)
   variable_first g is = ap (λ xs. functions_in (map item_view xs)) (drop_more items i x below ∙ ap (λ y. y ∷ drop (i + 1) items) (sym at ∙ is))
-
-pub none_left : (items : List Item) (i : ℕ) → length items ≤ i → functions_from items i ≡ []
-none_left items i all = ap (λ xs. functions_in (map item_view xs)) (drop_all i items all)

@@ -1,4 +1,4 @@
-mod Answering
+mod Answered
 mod FunctionLines
 mod Functions
 mod Refusing

@@ -1,15 +1,14 @@
 -- The report of a source: for each function, in order, a line that says whether it is lane-pure (the text is a choice of this
 -- project).
-use Rattle.std.specs.Prelude.{◌≡◌, ◌↔◌, ℕ, ◌<◌, Bool, true, false, IsTrue, List, [], ◌∷◌, ◌++◌, length, take, Option, Some, codes, slice_get}
+use Rattle.std.specs.Prelude.{◌≡◌, ℕ, ◌<◌, Bool, true, false, List, [], ◌∷◌, ◌++◌, length, take, Option, Some, codes}
 use Rattle.std.specs.Io.KnownBytes.{Appends}
 use Rattle.gang_model.specs.Source.Parsed.{ParsedFunction, ParsedSource, functions_in}
 use Rattle.gang_model.specs.Source.Sources.{ReadsAs}
 use Rattle.gang_model.specs.Types.Tree.{Program}
 use Rattle.gang_model.specs.Types.Resolved.{program_of}
 use Rattle.gang_model.specs.Types.SourceRefusals.{IsAccepted}
-use Rattle.gang_model.specs.Running.LanePure.{IsLanePure}
-use Rattle.gang_model.specs.Running.SeparateInstances.{HasSeparateLanes}
 use Rattle.gang_model.specs.Texts.Text.{Bytes, line, line_and_column}
+use Rattle.lane_pure.specs.Answers.{AreAnswers}
 use Rattle.transcript.specs.declared.answering.Ending.{Ending}
 use Rattle.transcript.specs.declared.answering.Ending.TheVariants.{EndOfCommands, WriteFault}
 
@@ -29,12 +28,6 @@ function_lines (f ∷ functions) (is_pure ∷ answers) = function_line f is_pure
 function_lines functions answers = []
 
 -- ---- the report
-
--- an answer for each function of a source: yes exactly for those that are lane-pure, whose lanes are instances of their own
-pub record AreAnswers (source : ParsedSource) (p : Program) (answers : List Bool) : Type 0 where
-  pub all : length answers ≡ length (functions_in source)
-  pub exact : (n : ℕ) (is : Bool) → slice_get answers n ≡ Some is → (IsTrue is ↔ IsLanePure source p n)
-  pub separate : (n : ℕ) → slice_get answers n ≡ Some true → HasSeparateLanes source n
 
 -- the report of a text without faults of names and types
 pub record IsReport (text out : Bytes) : Type 0 where

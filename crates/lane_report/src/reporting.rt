@@ -4,13 +4,14 @@ ghost use Rattle.gang_model.specs.Texts.Text.{Bytes};
 ghost use Rattle.lane_report.specs.Refusals.{IsRight};
 ghost use Rattle.lane_report.specs.Reports.{IsReport, Tells};
 
-use crate::judging::{answers_of, checked_source};
+use crate::judging::checked_source;
 use crate::lines::write_lines;
 use debug_traits::AnswerWriter;
 use ispc_refusals::Refusal;
 use source_answers::SourceFault;
 use std::alloc::Global;
 use transcript::Ending;
+use type_check::lane_pure_functions;
 
 /// Writes for each function of a source, in order, a line that says whether it is lane-pure: `lane-pure LINE:COL NAME: yes` or
 /// `no`, with the place of its name. Of a function with `yes` each lane of a call does alone, in a gang of any width, what it
@@ -37,7 +38,7 @@ pub fn report<O: AnswerWriter>(
         Err(SourceFault::Refused(refusal)) => return Err(Refusal::Source(refusal)),
         Err(SourceFault::Memory) => return Err(Refusal::Memory),
     };
-    let Ok(answers) = answers_of(alloc, &checked) else {
+    let Ok(answers) = lane_pure_functions(alloc, &checked) else {
         return Err(Refusal::Memory);
     };
     match write_lines(checked.tree(), &answers, writer) {

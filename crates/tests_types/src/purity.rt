@@ -6,13 +6,32 @@ use ispc_names::resolve;
 use ispc_parser::parse;
 use source_answers::SourceFault;
 use std::alloc::Global;
-use type_check::{check, is_lane_pure};
+use type_check::{Checked, check, is_lane_pure, lane_pure_functions};
+
+/// The typed program of a source.
+fn checked(alloc: Global, source: &[u8]) -> Result<Checked, SourceFault> {
+    let tokens = tokens(alloc, source)?;
+    let tree = parse(alloc, &tokens, source_end(source))?;
+    check(alloc, resolve(alloc, tree)?)
+}
+
+/// The same bits by the answers for all functions at once.
+fn all_pure(alloc: Global, source: &[u8]) -> Result<u8, SourceFault> {
+    let checked = checked(alloc, source)?;
+    let mut bits = 0u8;
+    let mut bit = 1u8;
+    for is_pure in &lane_pure_functions(alloc, &checked)? {
+        if *is_pure {
+            bits |= bit;
+        }
+        bit = bit.wrapping_mul(2);
+    }
+    Ok(bits)
+}
 
 /// A bit for each function of a source, set where the function is lane-pure.
 fn pure(alloc: Global, source: &[u8]) -> Result<u8, SourceFault> {
-    let tokens = tokens(alloc, source)?;
-    let tree = parse(alloc, &tokens, source_end(source))?;
-    let checked = check(alloc, resolve(alloc, tree)?)?;
+    let checked = checked(alloc, source)?;
     let mut bits = 0u8;
     let mut bit = 1u8;
     for number in 0..checked.program().functions.len() {
@@ -72,6 +91,11 @@ fn functions_are_lane_pure_or_not(rt: HostRuntime) {
         holds(
             &rt,
             pure(rt.alloc(), source.as_bytes()) == Ok(wanted),
+            source,
+        );
+        holds(
+            &rt,
+            all_pure(rt.alloc(), source.as_bytes()) == Ok(wanted),
             source,
         );
     }

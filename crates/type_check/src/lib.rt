@@ -9,5 +9,5 @@ mod typed;
 
 pub use checked::{Checked, check};
 pub use entry::entry_of;
-pub use purity::is_lane_pure;
+pub use purity::{is_lane_pure, lane_pure_functions};
 pub use typed::typed_program;

@@ -1,24 +1,20 @@
-use Rattle.std.proofs.Common.{◌≡◌, ◌∙◌, ap, sym, length, map}
-use Rattle.gang_model.specs.Source.Parsed.{functions_in}
+use Rattle.std.proofs.Common.{◌≡◌, ◌∙◌, ap, get_or, true}
+use Rattle.std.specs.Prelude.{unwrap_or}
+use Rattle.std.proofs.lemmas.Option.{unwrap_or-slice_get}
 use Rattle.source_tree.specs.Tree.{tree_view}
-use Rattle.typed_tree.specs.Views.{function_view, program_view}
-use Rattle.lane_pure.specs.Marks.{are_pure_where}
-use Rattle.lane_alone.proofs.PurePrograms.{are_separate, functions_alike}
-use Rattle.lane_pure.proofs.Marking.{length_mapped}
-use Rattle.lane_pure.proofs.Purity.{pure_decided}
+use Rattle.typed_tree.specs.Views.{program_view}
+use Rattle.lane_alone.proofs.PurePrograms.{are_separate}
+use Rattle.lane_pure.proofs.Purity.{copied_item, one_decided}
 use Rattle.lane_pure.proofs.functions.is_pure_in_lanes.Goals as goal
-
-pub are_pure_where-requires-clause-functions : goal.are_pure_where-requires-clause-functions
-are_pure_where-requires-clause-functions c =
-    functions_alike (tree_view c.args.tree.now) (program_view c.args.program.now) c.requires ∙ length_mapped function_view c.args.program.now.functions.items ∙ sym (ap length c.deref-2.ensures.value)
 
 pub returns-clause-decides : goal.returns-clause-decides
 returns-clause-decides c =
     let source = tree_view c.args.tree.now in
-    let decided : c.are_pure_where.result ≡ are_pure_where c.in_ok-marks.marks.items (functions_in source) (map function_view c.args.program.now.functions.items) =
-    c.are_pure_where.ensures ∙ ap (λ marks. are_pure_where marks (functions_in source) (map function_view c.deref-2.result.now)) c.deref.ensures.value
-    ∙ ap (λ functions. are_pure_where c.in_ok-marks.marks.items (functions_in source) (map function_view functions)) c.deref-2.ensures.value in
-    pure_decided source (program_view c.args.program.now) c.args.function.0 c.in_ok-marks.marks.items c.in_ok-marks.ensures c.are_pure_where.result decided
+    let answers = c.in_ok-answers.answers.items in
+    let n = c.args.function.0 in
+    let is : c.unwrap_or.result ≡ get_or answers n true =
+    c.unwrap_or.ensures ∙ ap (λ o. unwrap_or o true) (c.copied.ensures ∙ copied_item c.deref.result.now n c.get.result c.get.ensures.lookup) ∙ unwrap_or-slice_get c.deref.result.now n true ∙ ap (λ xs. get_or xs n true) c.deref.ensures.value in
+    one_decided source (program_view c.args.program.now) answers n c.requires c.in_ok-answers.ensures c.unwrap_or.result is
 
 pub returns-clause-separate : goal.returns-clause-separate
 returns-clause-separate c is =

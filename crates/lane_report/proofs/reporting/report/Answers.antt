@@ -4,7 +4,7 @@ use Rattle.gang_model.specs.Types.Resolved.{program_of}
 use Rattle.source_tree.specs.Tree.{tree_view}
 use Rattle.typed_tree.specs.Views.{program_view}
 use Rattle.lane_report.specs.Reports.{function_lines}
-use Rattle.lane_report.proofs.Answering.{report_of}
+use Rattle.lane_report.proofs.Answered.{report_of}
 use Rattle.lane_report.proofs.reporting.report.Goals as goal
 
 pub returns-in-Ok-write_lines-clause-report : goal.returns-in-Ok-write_lines-clause-report
@@ -13,7 +13,7 @@ returns-in-Ok-write_lines-clause-report g c =
     let typed = subst (λ tree. program_of (tree_view tree) ≡ Some p) c.checked.view_is c.checked.invariant.1 in
     let out = function_lines (functions_in (tree_view c.tree.result.now)) c.deref.result.now in
     let same = ap₂ (λ tree answers. function_lines (functions_in (tree_view tree)) answers) c.tree.ensures.value c.deref.ensures.value in
-    (out, report_of c.args.source.now out _ p _ c.in-Ok.ensures.reads c.in-Ok.ensures.accepted typed (c.in-Ok-answers_of.ensures p typed) same, c.in-Ok-write_lines.ensures)
+    (out, report_of c.args.source.now out _ p _ c.in-Ok.ensures.reads c.in-Ok.ensures.accepted typed (c.in-Ok-lane_pure_functions.ensures p typed) same, c.in-Ok-write_lines.ensures)
 
 pub returns-clause-report : goal.returns-clause-report
 returns-clause-report g c =
@@ -21,4 +21,4 @@ returns-clause-report g c =
     let typed = subst (λ tree. program_of (tree_view tree) ≡ Some p) c.checked.view_is c.checked.invariant.1 in
     let out = function_lines (functions_in (tree_view c.tree.result.now)) c.deref.result.now in
     let same = ap₂ (λ tree answers. function_lines (functions_in (tree_view tree)) answers) c.tree.ensures.value c.deref.ensures.value in
-    (out, report_of c.args.source.now out _ p _ c.in-Ok.ensures.reads c.in-Ok.ensures.accepted typed (c.in-Ok-answers_of.ensures p typed) same, c.in-Err.ensures)
+    (out, report_of c.args.source.now out _ p _ c.in-Ok.ensures.reads c.in-Ok.ensures.accepted typed (c.in-Ok-lane_pure_functions.ensures p typed) same, c.in-Err.ensures)
