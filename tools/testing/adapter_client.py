@@ -26,6 +26,7 @@ from .adapter_moves import MOVE_CHECKS
 from .adapter_programs import PROGRAM_CHECKS
 from .adapter_targets import TARGET_CHECKS
 from .adapter_values import VALUE_CHECKS
+from .adapter_words import WORD_CHECKS
 from .tried import Result
 
 # How long a check may take.
@@ -444,7 +445,7 @@ def wrong_requests(client, examples):
     client.end()
 
 
-CHECKS = [steps_and_back, watches, breaks, locations, variables, frames, faults, filters, the_end, wrong_requests, *FRAME_CHECKS, *LANE_CHECKS, *LAUNCH_CHECKS, *LOG_CHECKS, *VALUE_CHECKS, *TARGET_CHECKS, *CHILD_CHECKS, *FORMAT_CHECKS, *MOVE_CHECKS, *CONDITION_CHECKS, *FUNCTION_CHECKS, *PROGRAM_CHECKS]
+CHECKS = [steps_and_back, watches, breaks, locations, variables, frames, faults, filters, the_end, wrong_requests, *FRAME_CHECKS, *LANE_CHECKS, *LAUNCH_CHECKS, *LOG_CHECKS, *VALUE_CHECKS, *TARGET_CHECKS, *CHILD_CHECKS, *FORMAT_CHECKS, *MOVE_CHECKS, *CONDITION_CHECKS, *FUNCTION_CHECKS, *PROGRAM_CHECKS, *WORD_CHECKS]
 
 
 def check(root, command):

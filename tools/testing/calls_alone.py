@@ -8,10 +8,11 @@ import itertools
 import pathlib
 import re
 import subprocess
+import sys
 import tempfile
 
 from . import built, hostile, plain
-from .calls import go_on, side_by_side
+from .calls import called, go_on, side_by_side
 from .tried import SECONDS, Result, runs, stored_run
 
 CRATE = "calls_alone"
@@ -169,14 +170,24 @@ def result(call, program, failing):
     return Result(f"{call}: each of {given.count(REFUSED)} allocations refused", not why, why)
 
 
+def of_quick_build(crate, folder):
+    """The result of each call by the build of `make program`."""
+    tools = pathlib.Path(__file__).resolve().parents[1]
+    output, errors, status = called([sys.executable, tools / "quick_build", crate.name], tools)
+    failing = hostile.library(folder)
+    if status or failing is None:
+        return [Result(crate.name, False, [(output + errors).decode(errors="replace")[-3000:]])]
+    return side_by_side(lambda call: result(call, crate.folder / "out/quick", failing), CALLS)
+
+
 def results(crate, listed):
     """The result of the stored run, and of each call."""
     stored = stored_run(crate)
     with tempfile.TemporaryDirectory(prefix="alone-") as folder:
         checked, made = built.taken(crate, stored * built.LOOKS, pathlib.Path(folder)), plain.Plain(folder)
         if checked is None:
-            # Then it tells why.
-            return runs(crate, stored)
+            # On a busy machine it may have ended before it was found.
+            return [*runs(crate, stored), check(listed), *of_quick_build(crate, folder)]
         made.take(pathlib.Path(folder))
         program, why = made.program()
         failing = hostile.library(folder)

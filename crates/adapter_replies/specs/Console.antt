@@ -23,15 +23,25 @@ asked_in Console text =
     else (if same_text text (codes "info args") then Parameters else (if same_text text (codes "info locals") then Locals else Value))
 asked_in other text = Value
 
--- what can be typed in the console
-abbrev pub help_text : Bytes
-help_text =
+-- the commands, in the debugger's own words
+abbrev pub commands_text : Bytes
+commands_text =
     codes "step [N], next [N], finish, continue: forwards\n"
     ++ codes "reverse-step [N], reverse-next [N], reverse-finish, reverse-continue, undo: back\n"
     ++ codes "print T, set var T = V, info locals, backtrace: values and frames\n"
     ++ codes "break LINE, watch T, delete [N], info breakpoints: stops\n"
     ++ codes "set record full insn-number-max N: how many steps and changes can be taken back\n"
-    ++ codes "T is a variable, or one lane or element of it, as x[2]; any other line is an expression, as x + 1"
+
+-- what else can be typed
+abbrev pub words_text : Bytes
+words_text = codes "fin, where, d 2, i b, set T = V: words of the prompt do the same, unless a variable has this name\n"
+
+abbrev pub others_text : Bytes
+others_text = codes "T is a variable, or one lane or element of it, as x[2]; any other line is an expression, as x + 1"
+
+-- what can be typed in the console
+abbrev pub help_text : Bytes
+help_text = commands_text ++ (words_text ++ others_text)
 
 -- the line of a parameter
 abbrev pub parameter_line : ToldVariable → Bytes

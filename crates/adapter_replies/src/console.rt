@@ -37,6 +37,10 @@ const STOPS: &str = "break LINE, watch T, delete [N], info breakpoints: stops\n"
 const HISTORY: &str =
     "set record full insn-number-max N: how many steps and changes can be taken back\n";
 
+/// Words of the prompt.
+const WORDS: &str =
+    "fin, where, d 2, i b, set T = V: words of the prompt do the same, unless a variable has this name\n";
+
 /// What else can be typed.
 const OTHERS: &str =
     "T is a variable, or one lane or element of it, as x[2]; any other line is an expression, as x + 1";
@@ -90,13 +94,22 @@ fn is_help(text: &str) -> bool
 pub(crate) fn help_reply(alloc: Global) -> Result<Reply, AllocError>
     ensures { IfOk result (IsTold spec.help_text) }
 {
+    let mut text = commands_text(alloc)?;
+    text.push_str(WORDS)?;
+    text.push_str(OTHERS)?;
+    Ok(plain_value(text))
+}
+
+/// The commands, in the debugger's own words.
+fn commands_text(alloc: Global) -> Result<String, AllocError>
+    ensures { IfOk result (λ text. string_bytes text ≡ spec.commands_text) }
+{
     let mut text = String::from_str(alloc, FORWARDS)?;
     text.push_str(BACK)?;
     text.push_str(VALUES)?;
     text.push_str(STOPS)?;
     text.push_str(HISTORY)?;
-    text.push_str(OTHERS)?;
-    Ok(plain_value(text))
+    Ok(text)
 }
 
 /// The parameters of the frame at a depth.

@@ -1,9 +1,10 @@
--- Worked rows of what a restart does, of what going to a line does, of the stop button, and of messages.
+-- Worked rows of what a restart does, of what going to a line does, of the stop button, of messages, and of lines in the words of the prompt.
 use Rattle.std.proofs.Common.{◌≡◌, refl, true, false, None, Some, ℕ, List, [], ◌∷◌, codes}
 use Rattle.std.specs.Prelude.{not, option_map}
 use Rattle.gang_model.specs.Types.Tree.{Program, Variable}
 use Rattle.gang_model.specs.Debugger.Debugger.{Debugger, DoBreak, DoContinue, DoDelete, DoReverseContinue, DoWatch, Line, Setting, Stop, Target, Watch}
 use Rattle.debug_answers.specs.declared.answer.Answer.TheVariants as answer
+use Rattle.gang_model.specs.Texts.CommandText.{command_of}
 use Rattle.gang_model.specs.Texts.Text.{Bytes}
 use Rattle.conditional_stops.specs.Tables.{nothing}
 use Rattle.log_points.specs.Points.{Log}
@@ -16,6 +17,7 @@ use Rattle.adapter_session.specs.Requested.{break_at, commands_of, is_elsewhere,
 use Rattle.function_lines.specs.Lines.{function_line}
 use Rattle.adapter_session.specs.Restored.{made_in, stop_commands, with_made}
 use Rattle.adapter_session.specs.Terms.{FunctionStop, anew, carried_functions, carried_logs, changed, first_logged, name_of}
+use Rattle.adapter_session.specs.Typed.{meant_line, own_of}
 
 breakpoint_and_watch : (p : Program) (target : Target) (v : Variable) → stop_commands p [] ((2, Line 5) ∷ (4, Watch target v) ∷ []) ≡ DoBreak 5 ∷ DoWatch target ∷ []
 breakpoint_and_watch p target v = refl
@@ -104,3 +106,60 @@ another_function = refl
 -- behind a restart the second one is the function's
 the_functions_then : carried_functions go (2 ∷ 3 ∷ 4 ∷ []) (1 ∷ 2 ∷ 3 ∷ []) [] ≡ record { number = 2; name = codes "go" } ∷ []
 the_functions_then = refl
+
+-- words of the prompt, and the debugger's own lines
+of_a_letter : own_of (codes "d 3") ≡ Some (codes "delete  3")
+of_a_letter = refl
+
+its_command : command_of (codes "delete  3") ≡ Some (DoDelete (Some 3))
+its_command = refl
+
+of_a_list : own_of (codes "i b") ≡ Some (codes "info breakpoints ")
+of_a_list = refl
+
+of_a_front : own_of (codes "ste 3") ≡ Some (codes "step 3")
+of_a_front = refl
+
+of_frames : own_of (codes "where") ≡ Some (codes "backtrace")
+of_frames = refl
+
+of_locals : own_of (codes "i lo") ≡ Some (codes "info locals")
+of_locals = refl
+
+of_a_value : own_of (codes "set x[1] = 3") ≡ Some (codes "set var  x[1] = 3")
+of_a_value = refl
+
+until_alone : own_of (codes "u") ≡ Some (codes "next")
+until_alone = refl
+
+-- more than one command, a list that the debugger has not, and expressions
+until_a_line : own_of (codes "u 17") ≡ None
+until_a_line = refl
+
+temporary : own_of (codes "tb 9") ≡ None
+temporary = refl
+
+three_frames : own_of (codes "where 3") ≡ None
+three_frames = refl
+
+of_watches : own_of (codes "info watchpoints") ≡ None
+of_watches = refl
+
+of_a_sum : own_of (codes "d + 1") ≡ None
+of_a_sum = refl
+
+of_an_element : own_of (codes "d[1]") ≡ None
+of_an_element = refl
+
+of_a_comparison : own_of (codes "set == 3") ≡ None
+of_a_comparison = refl
+
+-- a command stays as it is typed, even where a variable has its name; another word is looked up there
+a_command_then : meant_line true (codes "c") ≡ codes "c"
+a_command_then = refl
+
+a_command_alone : meant_line false (codes "c") ≡ codes "c"
+a_command_alone = refl
+
+a_variable_then : meant_line true (codes "where") ≡ codes "where"
+a_variable_then = refl

@@ -27,6 +27,7 @@ use Rattle.adapter_session.specs.Changes.{change_of}
 use Rattle.adapter_session.specs.Requested.{commands_of, is_console}
 use Rattle.adapter_session.specs.Restored.{numbers}
 use Rattle.adapter_session.specs.Terms.{Terms, changed_by, function_numbers}
+use Rattle.adapter_session.specs.Typed.{IsMeant}
 
 -- the most stops that are passed for one request
 abbrev pub most : ℕ
@@ -91,5 +92,12 @@ abbrev pub DoesBy : {M : Type 0} → (M → Setting → Debugger → Type 0) →
 DoesBy stands None s program request d terms answered session new = DoesPlainly stands s program request d terms answered session new
 DoesBy stands (Some way) s program request d terms answered session new = GoesToStop stands s program request way d terms answered session new
 
-abbrev pub DoesRequest : {M : Type 0} → (M → Setting → Debugger → Type 0) → Setting → (program : Bytes) → Request → Debugger → Terms → Answered → Session M → (new : Terms) → Type 0
-DoesRequest stands s program request d terms answered session new = DoesBy stands (way_by terms request) s program request d terms answered session new
+-- the same of a request as it stands
+abbrev pub DoesMeant : {M : Type 0} → (M → Setting → Debugger → Type 0) → Setting → (program : Bytes) → Request → Debugger → Terms → Answered → Session M → (new : Terms) → Type 0
+DoesMeant stands s program request d terms answered session new = DoesBy stands (way_by terms request) s program request d terms answered session new
+
+-- what is meant by a request was done: a line of the console in the words of the prompt is done as the debugger's own
+pub record DoesRequest {M : Type 0} (stands : M → Setting → Debugger → Type 0) (s : Setting) (program : Bytes) (request : Request) (d : Debugger) (terms : Terms) (answered : Answered) (session : Session M) (new : Terms) : Type 0 where
+  pub meant : Request
+  pub is : IsMeant s d request meant
+  pub does : DoesMeant stands s program meant d terms answered session new

@@ -8,3 +8,4 @@ pub mod Going
 pub mod Requested
 pub mod Restored
 pub mod Terms
+pub mod Typed

@@ -8,7 +8,7 @@ ghost use Rattle.adapter_replies.specs.Told.{MeansLast};
 ghost use Rattle.adapter_session.specs.Answered.{IsTold, IsToldByLines, MayTell, is_source_of};
 ghost use Rattle.adapter_session.specs.Changes.{change_view};
 ghost use Rattle.adapter_session.specs.Given.{all_numbers};
-ghost use Rattle.adapter_session.specs.Done.{DoesPlainly, DoesRequest};
+ghost use Rattle.adapter_session.specs.Done.{DoesMeant, DoesPlainly, DoesRequest};
 ghost use Rattle.adapter_session.specs.Requested.{commands_of, lines_of, spelled};
 ghost use Rattle.adapter_session.specs.Terms.{changed_by, function_numbers, terms_of};
 
@@ -19,8 +19,9 @@ use crate::functions::function_numbers;
 use crate::going::{go_to, goto_of};
 use crate::lines::{command_lines, is_program};
 use crate::terms::Terms;
+use crate::typed::{meant_line, typed_in};
 use adapter_replies::reply_to;
-use adapter_requests::{Reply, Request};
+use adapter_requests::{Context, Reply, Request};
 use conditional_stops::Verdict;
 use debug_answers::{Answer, NumberedStop};
 use debug_session::Session;
@@ -40,7 +41,8 @@ pub struct Answered {
 }
 
 /// Does a request, where the program's source has this path, and says what it is told. Where conditions, counts or messages are there, a
-/// program that goes on does so to a stop that counts, and writes texts on the way.
+/// program that goes on does so to a stop that counts, and writes texts on the way. A line of the console that is a command in the words of
+/// the prompt is done, and told, as the debugger's own.
 ///
 /// # Errors
 ///
@@ -54,6 +56,37 @@ pub fn answer_request<M: ExpressionMachine>(
 ) -> Result<Answered, AllocError>
     ensures done { (s : Setting) (d : Debugger) → StandsFor M.stands session.old s d
         → IfOk result (λ answered. DoesRequest M.stands s program.now request.now d (terms_of terms.old) answered session.new (terms_of terms.new)) }
+    ensures memory { IfErr result (λ _. (session.new ≡ session.old) × (terms.new ≡ terms.old)) }
+{
+    match typed_in(request) {
+        None => {
+            let answered = answer_meant(alloc, program, terms, session, request)?;
+            Ok(answered)
+        }
+        Some(typed) => {
+            let line = meant_line(alloc, session.machine(), typed)?;
+            let meant = Request::Evaluate {
+                expression: line.as_str(),
+                frame: typed.frame,
+                context: Context::Console,
+                is_hexadecimal: typed.is_hexadecimal,
+            };
+            let answered = answer_meant(alloc, program, terms, session, &meant)?;
+            Ok(answered)
+        }
+    }
+}
+
+/// Does a request as it stands, and says what it is told.
+fn answer_meant<M: ExpressionMachine>(
+    alloc: Global,
+    program: &str,
+    terms: &mut Terms,
+    session: &mut Session<M>,
+    request: &Request<'_>,
+) -> Result<Answered, AllocError>
+    ensures done { (s : Setting) (d : Debugger) → StandsFor M.stands session.old s d
+        → IfOk result (λ answered. DoesMeant M.stands s program.now request.now d (terms_of terms.old) answered session.new (terms_of terms.new)) }
     ensures memory { IfErr result (λ _. (session.new ≡ session.old) × (terms.new ≡ terms.old)) }
 {
     match way_by(terms, request) {

@@ -12,6 +12,7 @@ mod lines;
 mod logging;
 mod restoring;
 mod terms;
+mod typed;
 
 pub use answering::{Answered, answer_request};
 pub use beginning::{Beginning, stop_at_beginning};

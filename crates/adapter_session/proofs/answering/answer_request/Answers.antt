@@ -1,14 +1,19 @@
-use Rattle.std.proofs.Common.{IfOk, ◌∙◌, subst, sym}
-use Rattle.adapter_session.specs.Done.{DoesBy}
-use Rattle.adapter_session.specs.Terms.{terms_of}
+use Rattle.std.proofs.Common.{ap, refl, subst, sym, ◌∙◌}
+use Rattle.std.specs.Prelude.{option_map}
+use Rattle.debug_session.specs.Sessions.{bare}
+use Rattle.adapter_requests.specs.declared.request.Context.TheVariants.{Console}
+use Rattle.adapter_requests.specs.declared.request.Request.TheVariants as request
+use Rattle.adapter_session.specs.Typed.{IsMeantBy, typed_view}
 use Rattle.adapter_session.proofs.answering.answer_request.Goals as goal
 
-pub returns-in-Some-clause-done : goal.returns-in-Some-clause-done
-returns-in-Some-clause-done g c s d there =
-    subst (λ way. DoesBy g.M.RecordedMachine.stands way s c.args.program.now c.args.request.now d (terms_of c.args.terms.now) c.go_to_counted.result c.go_to_counted.new.session (terms_of c.go_to_counted.new.terms))
-    (sym c.in-Some.is ∙ c.way_by.ensures) (c.go_to_counted.ensures s d there)
-
-pub returns-in-None-clause-done : goal.returns-in-None-clause-done
-returns-in-None-clause-done g c s d there =
-    subst (λ way. IfOk c.answer_plainly.result (λ answered. DoesBy g.M.RecordedMachine.stands way s c.args.program.now c.args.request.now d (terms_of c.args.terms.now) answered c.answer_plainly.new.session (terms_of c.answer_plainly.new.terms)))
-    (sym c.in-None.is ∙ c.way_by.ensures) (c.answer_plainly.ensures.done s d there)
+pub returns-in_ok-answered-in-Some-clause-done : goal.returns-in_ok-answered-in-Some-clause-done
+returns-in_ok-answered-in-Some-clause-done g c s d there =
+    let typed = c.in-Some.typed in
+    let machine = subst (λ machine. g.M.RecordedMachine.stands machine s (bare d)) (sym c.machine.ensures) there.there in
+    let meant = request.Evaluate c.as_str.result typed.frame Console typed.is_hexadecimal in
+    record {
+      meant = meant;
+      is = subst (λ t. IsMeantBy s d t c.args.request.now meant) (ap (option_map typed_view) (sym c.in-Some.is) ∙ c.typed_in.ensures)
+          (record { expression = c.as_str.result; text = c.as_str.ensures.value ∙ c.in_ok-line-in-Some.ensures s (bare d) machine; is = refl });
+      does = c.in_ok-answered-in-Some.ensures.done s d there;
+    }
