@@ -204,12 +204,12 @@ def why_unheard(ran, texts):
 
 
 class Trial:
-    """The check of a crate with the edits of a batch made, and what it says of each."""
+    """The check of a crate with the edits of a batch made and without some written answers, and what it says of each edit."""
 
-    def __init__(self, crate, batch, jobs, kept):
-        self.crate, self.batch, self.jobs, self.kept = crate, batch, jobs, kept
+    def __init__(self, crate, batch, jobs, kept, left_out=frozenset()):
+        self.crate, self.jobs, self.kept = crate, jobs, kept
         self.texts, self.why = applied(crate, batch)
-        self.messages = self.check(self.texts) if self.texts else []
+        self.messages = self.check(without_answers(crate, self.texts, left_out)) if self.texts else []
 
     def check(self, texts):
         """Returns the messages of a check with these texts, none where it tells nothing of a clause."""
@@ -228,10 +228,6 @@ class Trial:
         """Returns the written answers of these bodies that do not prove their goals."""
         return {(it.file, it.answer()) for it in self.messages if it.answer() and it.is_about(bodies)}
 
-    def leave_out(self, failing):
-        """Checks once more without these answers."""
-        self.messages = self.check(without_answers(self.crate, self.texts, failing))
-
     def why_not(self, bodies):
         """Returns why what was said does not count as a refusal of these bodies."""
         told = [it for it in self.messages if it.is_about(bodies)]
@@ -249,14 +245,14 @@ def tried(crate, batch, jobs, kept):
     refused.update({edit: f"refused: {it}" for edit, it in first.items() if it})
     failing = {edit: trial.failing_answers(bodies) for edit, bodies in batch if not first[edit]}
     why = {edit: trial.why_not(bodies) for edit, bodies in batch}
-    if any(failing.values()):
-        trial.leave_out(set().union(*failing.values()))
-        for edit, bodies in batch:
-            found = trial.open_goal(bodies)
-            if edit not in refused and failing[edit]:
-                goals = ", ".join(sorted(goal for _, goal in failing[edit]))
-                refused.update({edit: f"refused, without the answer to {goals}: {found}"} if found else {})
-                why[edit] = f"without the answer to {goals}: {trial.why_not(bodies)}"
+    again = [(edit, bodies) for edit, bodies in batch if failing.get(edit)]
+    if again:
+        # (those that are refused already are not checked once more: what is not proved takes longest)
+        second = Trial(crate, again, jobs, kept, set().union(*(failing[edit] for edit, _ in again)))
+        for edit, bodies in again:
+            found, goals = second.open_goal(bodies), ", ".join(sorted(goal for _, goal in failing[edit]))
+            refused.update({edit: f"refused, without the answer to {goals}: {found}"} if found else {})
+            why[edit] = f"without the answer to {goals}: {second.why_not(bodies)}"
     answers = [(edit, True, f"must-fail {crate.name}/{os.path.basename(edit)}: {said}") for edit, said in refused.items()]
     for edit, bodies in batch:
         if edit not in refused and len(batch) > 1:

@@ -9,6 +9,7 @@ import hashlib
 import os
 import subprocess
 
+from reading import sum_of_read
 from store import RUN, sum_of
 from toolchain import rt, rtlib
 
@@ -32,16 +33,18 @@ def toolchain():
 def digests_of(crates):
     """Returns a digest of all that each crate's proof and tests rest on, which is the same on every machine.
 
-    It is of the crate's files and its whole line of crates.txt, HANDLES, the line by which the toolchain names itself, and the digests of the
-    crates that it stands on.
+    It is of what a check of the crate reads of the repository's files, its whole line of crates.txt and those of the crates below it, HANDLES, and
+    the line by which the toolchain names itself.
     """
-    found = {}
+    kinds = {it.name: repr((it.name, it.said, it.is_program, it.of_kit)) for it in crates}
+    below = {}
+    for crate in crates:
+        below[crate.name] = {lower.name: lower for dep in crate.deps for lower in (dep, *below[dep.name].values())}
 
     def digest(crate):
-        if crate.name not in found:
-            kind = (crate.name, crate.said, crate.is_program, crate.of_kit, [digest(it) for it in crate.deps])
-            found[crate.name] = sum_of((identity(), rt.Crate.allowed, kind), crate.folder, (*rtlib.PARTS, "c"))
-        return found[crate.name]
+        lower = below[crate.name]
+        read = (identity(), rt.Crate.allowed, kinds[crate.name], sorted(kinds[it] for it in lower), sum_of_read(crate, lower.values()))
+        return hashlib.sha256(repr(read).encode()).hexdigest()
 
     return {it.name: digest(it) for it in crates}
 

@@ -64,6 +64,16 @@ def remembered_stamp(crate):
 rt.Crate.stamp = remembered_stamp
 
 
+def remembered_below(crate):
+    """The libraries below a crate, each after those that it uses, found once for each crate: the toolchain walks every path of the graph."""
+    if not hasattr(crate, "lower"):
+        crate.lower = [*{it.name: it for dep in crate.deps for it in (*dep.below(), dep)}.values()]
+    return [*crate.lower]
+
+
+rt.Crate.below = remembered_below
+
+
 def digests_of(crates):
     """Returns each crate's digest, as the toolchain's own gate sums what a verdict rests on.
 

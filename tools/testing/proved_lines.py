@@ -22,12 +22,12 @@ SOURCES = {
 //! The smaller of two numbers.
 #![tactic(auto)]
 
-ghost use Rattle.std.specs.Prelude.{◌≤◌};
+ghost use Rattle.lower.specs.Named.{IsAtMost};
 
 /// The smaller of two numbers.
 pub fn smaller(a: u32, b: u32) -> u32
-    ensures first { result ≤ a }
-    ensures second { result ≤ b }
+    ensures first { IsAtMost a result }
+    ensures second { IsAtMost b result }
 {
     if a < b { a } else { b }
 }
@@ -46,6 +46,27 @@ pub fn at_most_7(a: u32) -> u32
 {
     smaller(a, 7)
 }
+""",
+}
+# The lower one's definitions: one that its source names, and one that nothing does.
+NAMED, UNNAMED = "Named", "Unnamed"
+DEFINITIONS = {
+    "Lib": f"pub mod {NAMED}\npub mod {UNNAMED}\n",
+    NAMED: """\
+-- Numbers that have a bound.
+use Rattle.std.specs.Prelude.{ℕ, ◌≤◌}
+
+-- a number is at most another one
+abbrev pub IsAtMost : (most n : ℕ) → Type 0
+IsAtMost most n = n ≤ most
+""",
+    UNNAMED: """\
+-- A number.
+use Rattle.std.specs.Prelude.{ℕ}
+
+-- seven
+abbrev pub seven : ℕ
+seven = 7
 """,
 }
 # Of each crate a body, and a wrong one.
@@ -83,6 +104,8 @@ class Small:
             write(self.source(name), text)
             right, wrong = BODIES[name]
             write(self.root / f"crates/{name}/must-fail/wrong_body.edit", f"file: src/lib.rt\nold: {right}\nnew: {wrong}\n")
+        for name, text in DEFINITIONS.items():
+            write(self.root / f"crates/{LOWER}/specs/{name}.antt", text)
 
     def source(self, name):
         return self.root / f"crates/{name}/src/lib.rt"
@@ -90,6 +113,15 @@ class Small:
     def change(self, name, old, new):
         text = self.source(name).read_text(encoding="utf-8")
         write(self.source(name), text.replace(old, new))
+
+    def tell_more(self, module):
+        """Changes what the lower one's module says of itself."""
+        write(self.root / f"crates/{LOWER}/specs/{module}.antt", DEFINITIONS[module].replace("\n", " Once more.\n", 1))
+
+    def left_of(self, name, is_judged):
+        """Whether just this is left to do of a crate: nothing, by its line, or all of it."""
+        listed, _ = self.called(LANDS, "0", "--list")
+        return f"{name}: nothing left (proved.txt)" in listed.splitlines() if is_judged else f"{name}: proof, 1 edits" in listed.splitlines()
 
     def forget(self):
         """Leaves nothing of the store, nor of what was built."""
@@ -152,8 +184,17 @@ def lines_that_stand(small):
     small.must("its line alone is other", small.lines()[LOWER] == first[LOWER] and small.lines()[UPPER] != first[UPPER])
     small.must("of another toolchain's lines the one of a crate that is there stays", [it for it in small.all_lines() if it in OTHERS] == [OTHERS[0]])
     small.change(LOWER, "The smaller of", "What is smaller of")
-    listed, _ = small.called(LANDS, "0", "--list")
-    small.must(f"with the lower one both are to be judged: {listed}", all(f"{it}: proof, 1 edits" in listed.splitlines() for it in SOURCES))
+    small.must("with the lower one both are to be judged", all(small.left_of(it, False) for it in SOURCES))
+
+
+def modules_that_are_named(small):
+    """What nothing names of the lower one leaves the line of the upper one, and what its source names does not."""
+    small.forget()
+    small.lands("an empty store once more", "4 passed, 0 failed", [f"{name}: {it}" for name in SOURCES for it in ("proof", "edit")])
+    small.tell_more(UNNAMED)
+    small.must("a module that nothing names leaves the upper one judged", small.left_of(LOWER, False) and small.left_of(UPPER, True))
+    small.tell_more(NAMED)
+    small.must("a module that is named leaves neither", small.left_of(LOWER, False) and small.left_of(UPPER, False))
 
 
 def a_short_disk(small):
@@ -180,11 +221,11 @@ def forged_lines(small):
 
 
 def check(root):
-    """A result for the lines that stand, one for a short disk, and one for lines that were forged."""
+    """A result for each of the calls above, on one repository that they change one after another."""
     found = []
     with tempfile.TemporaryDirectory(prefix="small-") as top:
         small = Small(root / "tools", pathlib.Path(os.path.realpath(top)))
-        for call in (crates_that_are_named, lines_that_stand, a_short_disk, forged_lines):
+        for call in (crates_that_are_named, lines_that_stand, modules_that_are_named, a_short_disk, forged_lines):
             small.why = []
             call(small)
             found.append(Result(call.__name__.replace("_", " "), not small.why, small.why))
