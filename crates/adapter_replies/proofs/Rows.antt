@@ -37,12 +37,12 @@ use Rattle.adapter_replies.specs.declared.forms.Form.TheVariants as form
 use Rattle.adapter_replies.specs.Forms.{asked_form}
 use Rattle.adapter_replies.specs.Frames.{ToldFrame, all_frames, asked_frames, call_frame, call_told, calls_told, frame_name, standing_frame}
 use Rattle.adapter_replies.specs.declared.places.Scope.TheVariants.{Locals, Arguments}
-use Rattle.adapter_replies.specs.References.{is_set_there, place_now, place_of}
+use Rattle.adapter_replies.specs.References.{depth_in, is_set_there, place_now, place_of}
 use Rattle.adapter_replies.specs.Shown.{shown_text, without_end}
 use Rattle.adapter_replies.specs.Stopped.{goto_reason, reason_of}
 use Rattle.adapter_replies.specs.Expressions.{lanes_text, one_text, shown_in}
 use Rattle.adapter_replies.specs.Pages.{named_children, paged}
-use Rattle.adapter_replies.specs.Told.{IsEvaluated, IsMoveTold, fixed_reply, is_expression}
+use Rattle.adapter_replies.specs.Told.{IsEvaluated, IsMoveTold, as_set, fixed_reply, is_expression, set_unsaid}
 use Rattle.adapter_replies.specs.Variables.{has_range, range_count, ranges_in, told_parts, type_text, values, waits_at, whole_text}
 use Rattle.adapter_replies.specs.Waiting.{waits}
 
@@ -73,8 +73,18 @@ outer_frame = refl
 set_in_the_top_frame : is_set_there 2 (place_of 21) ≡ true
 set_in_the_top_frame = refl
 
-not_set_in_the_outer_frame : is_set_there 2 (place_of 11) ≡ false
-not_set_in_the_outer_frame = refl
+set_in_the_outer_frame : is_set_there 2 (place_of 11) ≡ true
+set_in_the_outer_frame = refl
+
+not_set_in_a_frame_that_is_gone : is_set_there 2 (place_of 31) ≡ false
+not_set_in_a_frame_that_is_gone = refl
+
+-- a lane of the outer frame, and a variable of the file
+depth_of_a_lane : depth_in 2 (place_of 1013) ≡ 1
+depth_of_a_lane = refl
+
+depth_of_the_file : depth_in 2 (place_of 2006) ≡ 2
+depth_of_the_file = refl
 
 -- the third range of the fourth variable of the file, and the second of the second parameter at depth 2
 range_of_file : place_of 2003009 ≡ place.FileRange 3 2
@@ -139,14 +149,14 @@ varying_scalar = record { name = codes "x"; id = File 1; type = t.Int32; rate = 
 abbrev whole_page : Page
 whole_page = record { start = None; count = None; filter = filter.All }
 
-no_parts : told_parts form.Value false whole_page (true ∷ []) place.Nothing uniform_scalar (5 ∷ []) ≡ []
+no_parts : told_parts form.Value whole_page (true ∷ []) place.Nothing uniform_scalar (5 ∷ []) ≡ []
 no_parts = refl
 
-lane_values : map (λ told. told.value) (told_parts form.Value false whole_page (true ∷ false ∷ []) place.Nothing varying_scalar (5 ∷ 6 ∷ [])) ≡ codes "5" ∷ codes "6" ∷ []
+lane_values : map (λ told. told.value) (told_parts form.Value whole_page (true ∷ false ∷ []) place.Nothing varying_scalar (5 ∷ 6 ∷ [])) ≡ codes "5" ∷ codes "6" ∷ []
 unfolding digits value_of
 lane_values = refl
 
-lane_kinds : map (λ told. told.kind) (told_parts form.Value false whole_page (true ∷ false ∷ []) place.Nothing varying_scalar (5 ∷ 6 ∷ [])) ≡ kind.Plain ∷ kind.Waits ∷ []
+lane_kinds : map (λ told. told.kind) (told_parts form.Value whole_page (true ∷ false ∷ []) place.Nothing varying_scalar (5 ∷ 6 ∷ [])) ≡ kind.Plain ∷ kind.Waits ∷ []
 unfolding digits value_of
 lane_kinds = refl
 
@@ -157,8 +167,12 @@ none_waits = refl
 no_element_waits : waits_at (true ∷ false ∷ []) true 1 ≡ false
 no_element_waits = refl
 
--- of an outer frame each lane is only looked at
-lanes_looked_at : map (λ told. told.is_read_only) (told_parts form.Value true whole_page (true ∷ false ∷ []) place.Nothing varying_scalar (5 ∷ 6 ∷ [])) ≡ true ∷ true ∷ []
+-- each lane can be set, and one of an expression is only looked at
+lanes_to_be_set : map (λ told. told.is_read_only) (told_parts form.Value whole_page (true ∷ false ∷ []) place.Nothing varying_scalar (5 ∷ 6 ∷ [])) ≡ false ∷ false ∷ []
+unfolding digits value_of
+lanes_to_be_set = refl
+
+lanes_looked_at : map (λ told. told.is_read_only) (told_lanes rate.Varying form.Value whole_page t.Int8 (true ∷ false ∷ []) (5 ∷ 6 ∷ []) 2) ≡ true ∷ true ∷ []
 unfolding digits value_of
 lanes_looked_at = refl
 
@@ -371,6 +385,19 @@ refused_place told name text words is = ap (λ line. Some (None, line)) is
 
 no_refused_value : (told : _) (why : _) (name text words : Bytes) → IsEvaluated Watch name false (Some (answer.Refused refusal.OutOfRange)) text words (reply.Evaluated told why 0) → ⊥
 no_refused_value told why name text words says = cc says
+
+-- a value that was set in an outer frame: the answer says nothing, nor does that to another line
+set_in_an_outer_frame : set_unsaid answer.Silent Console (codes "set var x[1] = 5") ≡ Some (record { name = codes "x"; at = Some 1 })
+set_in_an_outer_frame = refl
+
+nothing_is_set : set_unsaid answer.Silent Console (codes "quit") ≡ None
+nothing_is_set = refl
+
+set_in_the_top_frame_then : (target : _) (shown : _) → set_unsaid (answer.Shows target shown) Console (codes "set var x[1] = 5") ≡ None
+set_in_the_top_frame_then target shown = refl
+
+value_that_was_set : (told : _) → as_set (reply.Evaluated told None 13) ≡ reply.Set told
+value_that_was_set told = refl
 
 at_watch : reason_of (answer.AtWatch 3) ≡ Some (reason.DataBreakpoint 3)
 at_watch = refl

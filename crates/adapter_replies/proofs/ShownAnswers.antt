@@ -20,6 +20,7 @@ set_to other text values value some = absurd cc
 -- where it shows none, it is told as why the variable was not set
 pub not_set : (given : Answer) (text values : Bytes) (told : Reply) → None ≡ shown_option given values → told_stop told ≡ Some (None, shown_text text) → IsSetTold (Some given) text values told
 not_set (answer.Shows target shown) text values told none says = absurd cc
+not_set answer.Silent text values told none says = tt
 not_set other text values told none says = says
 
 -- or in a line of the console as the line is

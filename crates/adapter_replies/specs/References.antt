@@ -69,16 +69,23 @@ is_there top other = true
 abbrev pub place_now : (top reference : ℕ) → Place
 place_now top reference = if is_there top (place_of reference) then place_of reference else place.Nothing
 
--- whether a variable is set that is one of those of a reference: in the top frame, or in the file
+-- whether a variable is set that is one of those of a reference: in a frame that is there, or in the file
 abbrev pub is_set_there : (top : ℕ) → Place → Bool
-is_set_there top (place.Variables scope deep) = deep == top
-is_set_there top (place.Parts scope deep number) = deep == top
+is_set_there top (place.Variables scope deep) = is_frame top deep
+is_set_there top (place.Parts scope deep number) = is_frame top deep
 is_set_there top place.File = true
 is_set_there top (place.OfFile number) = true
-is_set_there top (place.Range scope deep number range) = deep == top
+is_set_there top (place.Range scope deep number range) = is_frame top deep
 is_set_there top (place.FileRange number range) = true
 is_set_there top (place.Expression index) = false
 is_set_there top place.Nothing = false
+
+-- the depth of the frame in which what a reference stands for is looked up: the top one's where it is in none
+abbrev pub depth_in : (top : ℕ) → Place → ℕ
+depth_in top (place.Variables scope deep) = deep
+depth_in top (place.Parts scope deep number) = deep
+depth_in top (place.Range scope deep number range) = deep
+depth_in top other = top
 
 -- the index of the expression whose value is at a place
 abbrev pub expression_index : Place → Option ℕ

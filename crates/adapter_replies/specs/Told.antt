@@ -1,11 +1,12 @@
 -- What each request is told.
-use Rattle.std.specs.Prelude.{◌≡◌, ◌⊎◌, ℕ, Bool, true, false, not, ◌&&◌, is_some, List, [], ◌∷◌, ◌++◌, length, map, codes, string_bytes, Option, Some, None}
+use Rattle.std.specs.Prelude.{◌≡◌, ◌⊎◌, ℕ, Bool, true, false, not, ◌&&◌, ◌||◌, is_some, List, [], ◌∷◌, ◌++◌, length, map, codes, string_bytes, Option, Some, None}
+use Rattle.std.specs.Str.Lossy.{utf8_lossy}
 use Rattle.gang_model.specs.Running.State.{State}
 use Rattle.gang_model.specs.Debugger.Debugger as model
 use Rattle.gang_model.specs.Types.Tree.{Variable}
 use Rattle.gang_model.specs.Debugger.Debugger.{Debugger, OutOfRange, Refusal, Setting, Target, bad_part, depth, now, part_shown, target_words}
 use Rattle.gang_model.specs.Texts.CommandText.{command_of}
-use Rattle.gang_model.specs.Texts.Text.{Bytes}
+use Rattle.gang_model.specs.Texts.Text.{Bytes, index_text}
 use Rattle.debug_answers.specs.declared.answer.Answer.{Answer}
 use Rattle.debug_answers.specs.declared.answer.Answer.TheVariants as answer
 use Rattle.debug_answers.specs.declared.answer.Refusal.TheVariants as refusal
@@ -21,7 +22,7 @@ use Rattle.adapter_requests.specs.declared.reply.Reply.{Reply}
 use Rattle.adapter_requests.specs.declared.reply.Reply.TheVariants as reply
 use Rattle.adapter_requests.specs.declared.reply.Thread.{Thread}
 use Rattle.adapter_requests.specs.declared.request.Context.{Context}
-use Rattle.adapter_requests.specs.declared.request.Context.TheVariants.{Console}
+use Rattle.adapter_requests.specs.declared.request.Context.TheVariants.{Console, Watch}
 use Rattle.adapter_requests.specs.declared.request.Request.{Request}
 use Rattle.adapter_requests.specs.declared.request.Request.TheVariants as request
 use Rattle.adapter_replies.specs.Exceptions.{no_fault}
@@ -36,7 +37,7 @@ use Rattle.adapter_replies.specs.Forms.{form_if}
 use Rattle.adapter_replies.specs.Frames.{ToldFrame, all_frames, asked_frames, frame_view}
 use Rattle.adapter_replies.specs.Locations.{goto_line, told_places}
 use Rattle.adapter_replies.specs.Opened.{opened, opened_by}
-use Rattle.adapter_replies.specs.References.{is_frame, place_of, within}
+use Rattle.adapter_replies.specs.References.{depth_in, is_frame, place_of, within}
 use Rattle.adapter_replies.specs.declared.console.Asked.{Asked}
 use Rattle.adapter_replies.specs.declared.console.Asked.TheVariants as asked
 use Rattle.adapter_replies.specs.declared.places.Place.{Place}
@@ -44,7 +45,7 @@ use Rattle.adapter_replies.specs.declared.places.Place.TheVariants as place
 use Rattle.adapter_replies.specs.declared.places.Scope.TheVariants.{Locals, Arguments}
 use Rattle.adapter_replies.specs.Shown.{shown_text}
 use Rattle.adapter_replies.specs.Stopped.{goto_reason, reason_of}
-use Rattle.adapter_replies.specs.Targets.{target_in}
+use Rattle.adapter_replies.specs.Targets.{set_by, target_in}
 use Rattle.adapter_replies.specs.Variables.{ToldVariable, told_each, told_now, values, variable_view, words_at}
 
 -- the frames of a reply, and how many it says there are
@@ -176,6 +177,51 @@ abbrev pub IsNameToldIn : (is_frame : Bool) → Setting → Debugger → (depth 
 IsNameToldIn false s d deep asking told = IsNoFrame told
 IsNameToldIn true s d deep asking told = IsTargetTold s d deep asking (target_in asking.text) told
 
+-- ---- values that were set in another frame than the top one
+
+-- the value that a reply tells, as one that was set; any other reply as it is
+abbrev pub as_set : Reply → Reply
+as_set (reply.Evaluated text reason reference) = reply.Set text
+as_set other = other
+
+-- what is told of a name that was set in the frame at a depth: the values that it has there then
+pub record IsSetThereTold (s : Setting) (d : Debugger) (deep : ℕ) (name : Bytes) (is_hexadecimal : Bool) (told : Reply) : Type 0 where
+  pub shown : Reply
+  pub is : IsTargetTold s d deep (asking_of Watch name is_hexadecimal) (target_in name) shown
+  pub told_is : told ≡ as_set shown
+
+-- the same by the answer to the line: nothing is said where a value was set in another frame than the top one
+abbrev pub IsGivenTold : Setting → Debugger → Option Answer → (depth : ℕ) → (name : Bytes) → (is_hexadecimal : Bool) → Reply → Type 0
+IsGivenTold s d (Some answer.Silent) deep name is_hexadecimal told = IsSetThereTold s d deep name is_hexadecimal told
+IsGivenTold s d other deep name is_hexadecimal told = Unit {0}
+
+-- the target that a line of the console has set, of which nothing is said
+abbrev pub set_unsaid : Answer → Context → (text : Bytes) → Option Target
+set_unsaid answer.Silent Console text = set_by (command_of text)
+set_unsaid other context text = None
+
+-- TARGET = VALUES
+abbrev pub named_text : Target → (values : Bytes) → Bytes
+named_text target values = ((utf8_lossy target.name ++ index_text target.at) ++ codes " = ") ++ values
+
+-- the values that a reply tells of a target are told with its name; any other reply as it is
+abbrev pub IsNamedTold : Target → (shown told : Reply) → Type 0
+IsNamedTold target (reply.Evaluated text reason reference) told = (told_value told ≡ Some (reason, named_text target (string_bytes text))) × (told_place told ≡ place_of reference)
+IsNamedTold target other told = told ≡ other
+
+-- alone where hexadecimal numbers are asked for, as they are told of the top frame
+abbrev pub IsLineOf : (is_hexadecimal : Bool) → Target → (shown told : Reply) → Type 0
+IsLineOf true target shown told = told ≡ shown
+IsLineOf false target shown told = IsNamedTold target shown told
+
+-- what a line of the console is told that has set a target in the frame at a depth: the values that it has there then
+pub record IsSetLineTold (s : Setting) (d : Debugger) (deep : ℕ) (text : Bytes) (is_hexadecimal : Bool) (target : Target) (told : Reply) : Type 0 where
+  pub shown : Reply
+  pub is : IsTargetTold s d deep (asking_of Watch text is_hexadecimal) (Some target) shown
+  pub told_is : IsLineOf is_hexadecimal target shown told
+
+-- ---- texts that are evaluated
+
 -- whether an answer says that a text names no variable
 abbrev pub is_unnamed : Answer → Bool
 is_unnamed (answer.Refused refusal.BadCommand) = true
@@ -196,14 +242,22 @@ abbrev pub IsPrinted : (is_expression : Bool) → Setting → Debugger → Askin
 IsPrinted true s d asking given told = IsTargetTold s d (depth (now s d)) asking (target_in asking.text) told
 IsPrinted false s d asking given told = told_place told ≡ opened_by s d given
 
--- what is told of an expression in the frame where it stands; for one in another frame than the top one no command was done
+-- what is told of a text for which a command was done, by the target that it has set in another frame than the top one, if it has set one
+abbrev pub IsDoneTold : Option Target → Setting → Debugger → (depth : ℕ) → Context → (text : Bytes) → (is_hexadecimal : Bool) → Answer → Reply → Type 0
+IsDoneTold None s d deep context text is_hexadecimal given told = IsPrinted (is_expression context text given) s d (asking_of context text is_hexadecimal) given told
+IsDoneTold (Some target) s d deep context text is_hexadecimal given told = IsSetLineTold s d deep text is_hexadecimal target told
+
+-- what is told of an expression in the frame where it stands; for one in another frame than the top one no command was done, but one that sets a value there
 abbrev pub IsLookedUp : Setting → Debugger → Option Answer → (frame : Option ℕ) → Context → (text : Bytes) → (is_hexadecimal : Bool) → Reply → Type 0
-IsLookedUp s d (Some given) frame context text is_hexadecimal told = IsPrinted (is_expression context text given) s d (asking_of context text is_hexadecimal) given told
+IsLookedUp s d (Some given) frame context text is_hexadecimal told =
+    IsDoneTold (set_unsaid given context text) s d (frame_or (depth (now s d)) frame) context text is_hexadecimal given told
 IsLookedUp s d None None context text is_hexadecimal told = told ≡ reply.Done
 IsLookedUp s d None (Some frame) context text is_hexadecimal told = IsNameToldIn (is_frame (depth (now s d)) frame) s d frame (asking_of context text is_hexadecimal) told
 
--- what a request to evaluate is told where a machine stands for a debugger
+-- what a request to set or to evaluate is told where a machine stands for a debugger
 abbrev pub IsEvaluateTold : Setting → Debugger → (last : Option Answer) → Request → Reply → Type 0
+IsEvaluateTold s d last (request.SetVariable reference name value is_hexadecimal) told = IsGivenTold s d last (depth_in (depth (now s d)) (place_of reference)) name.now is_hexadecimal told
+IsEvaluateTold s d last (request.SetExpression expression value frame is_hexadecimal) told = IsGivenTold s d last (frame_or (depth (now s d)) frame) expression.now is_hexadecimal told
 IsEvaluateTold s d last (request.Evaluate expression frame context is_hexadecimal) told = IsLookedUp s d last frame context expression.now is_hexadecimal told
 IsEvaluateTold s d last other told = Unit {0}
 
@@ -219,6 +273,8 @@ IsLookTold s d other told = Unit {0}
 
 -- what a request is told there
 abbrev pub IsToldOf : Setting → Debugger → (last : Option Answer) → Request → Reply → Type 0
+IsToldOf s d last (request.SetVariable reference name value is_hexadecimal) told = IsEvaluateTold s d last (request.SetVariable reference name value is_hexadecimal) told
+IsToldOf s d last (request.SetExpression expression value frame is_hexadecimal) told = IsEvaluateTold s d last (request.SetExpression expression value frame is_hexadecimal) told
 IsToldOf s d last (request.Evaluate expression frame context is_hexadecimal) told = IsEvaluateTold s d last (request.Evaluate expression frame context is_hexadecimal) told
 IsToldOf s d last other told = IsLookTold s d other told
 
@@ -287,9 +343,11 @@ abbrev pub IsGotoTold : Option Answer → Bytes → Reply → Type 0
 IsGotoTold None text told = told ≡ reply.Done
 IsGotoTold (Some given) text told = told_stop told ≡ Some (goto_reason given, shown_text text)
 
--- what a request to set a variable is told: its values, or why it was not set; no command is done for one of an outer frame
+-- what a request to set a variable is told: its values, or why it was not set; no command is done for one of no frame. What was set in another frame than
+-- the top one is told by what stands there.
 abbrev pub IsSetTold : Option Answer → (text values : Bytes) → Reply → Type 0
-IsSetTold None text values told = told_stop told ≡ Some (None, codes "only a variable of the top frame or of the file can be set")
+IsSetTold None text values told = told_stop told ≡ Some (None, codes "only a variable of a frame or of the file can be set")
+IsSetTold (Some answer.Silent) text values told = Unit {0}
 IsSetTold (Some (answer.Shows target shown)) text values (reply.Set value) = string_bytes value ≡ values
 IsSetTold (Some (answer.Shows target shown)) text values told = ⊥
 IsSetTold (Some given) text values told = told_stop told ≡ Some (None, shown_text text)
@@ -318,15 +376,19 @@ abbrev pub IsAnswerTold : (is_whole : Bool) → Context → Answer → (text val
 IsAnswerTold true context given text values told = IsLineTold given text told
 IsAnswerTold false context given text values told = IsValueTold context given text values told
 
--- what a request to evaluate is told by the answer to its line, but for an expression
-abbrev pub IsAnsweredIn : (is_expression : Bool) → Context → (is_hexadecimal : Bool) → Answer → (text values : Bytes) → Reply → Type 0
+-- whether what is told of a text is said by what stands, and not by the answer to its line: of an expression, and of a value in another frame than the top one
+abbrev pub is_told_there : Context → (text : Bytes) → Answer → Bool
+is_told_there context text given = is_some (set_unsaid given context text) || is_expression context text given
+
+-- what a request to evaluate is told by the answer to its line, where that says it
+abbrev pub IsAnsweredIn : (is_told_there : Bool) → Context → (is_hexadecimal : Bool) → Answer → (text values : Bytes) → Reply → Type 0
 IsAnsweredIn true context is_hexadecimal given text values told = Unit {0}
 IsAnsweredIn false context is_hexadecimal given text values told = IsAnswerTold (is_told_whole context is_hexadecimal) context given text values told
 
 -- what a request to evaluate is told by an answer
 abbrev pub IsEvaluated : Context → (expression : Bytes) → (is_hexadecimal : Bool) → Option Answer → (text values : Bytes) → Reply → Type 0
 IsEvaluated context expression is_hexadecimal None text values told = Unit {0}
-IsEvaluated context expression is_hexadecimal (Some given) text values told = IsAnsweredIn (is_expression context expression given) context is_hexadecimal given text values told
+IsEvaluated context expression is_hexadecimal (Some given) text values told = IsAnsweredIn (is_told_there context expression given) context is_hexadecimal given text values told
 
 -- the values that an answer shows, in a form
 abbrev pub shown_values : State → model.Answer → Form → Bytes

@@ -1,5 +1,5 @@
 -- The variables that an editor is told.
-use Rattle.std.specs.Prelude.{ℕ, suc, Bool, true, false, ◌+◌, ◌-◌, ◌*◌, ◌/◌, ◌==◌, not, ◌&&◌, ◌||◌, List, [], ◌∷◌, ◌++◌, codes, decimal, length, map, min, nat_le, nat_lt, slice_get, string_bytes, take, Option, Some, None, if◌then◌else◌}
+use Rattle.std.specs.Prelude.{ℕ, suc, Bool, true, false, ◌+◌, ◌-◌, ◌*◌, ◌/◌, not, ◌&&◌, ◌||◌, List, [], ◌∷◌, ◌++◌, codes, decimal, length, map, min, nat_le, nat_lt, slice_get, string_bytes, take, Option, Some, None, if◌then◌else◌}
 use Rattle.std.specs.List.{join_by, range_with_len}
 use Rattle.std.specs.Str.Lossy.{utf8_lossy}
 use Rattle.gang_types.specs.Lanes.{Lanes}
@@ -97,14 +97,14 @@ whole_kind true count = kind.Array count
 whole_kind false count = kind.Plain
 
 -- a variable with its words, whose lanes or elements are at a place
-abbrev pub told_whole : Form → (is_read_only : Bool) → model.Variable → List ℕ → Place → ToldVariable
-told_whole form is_read_only v words parts = record {
+abbrev pub told_whole : Form → model.Variable → List ℕ → Place → ToldVariable
+told_whole form v words parts = record {
   name = utf8_lossy v.name;
   value = whole_text form v.type v.is_array words;
   type = type_text v.rate v.type v.is_array (length words);
   kind = whole_kind v.is_array (length words);
   is_constant = v.is_constant;
-  is_read_only = is_read_only;
+  is_read_only = false;
   parts = if has_parts v then parts else place.Nothing;
 }
 
@@ -118,34 +118,34 @@ part_kind true = kind.Waits
 part_kind false = kind.Plain
 
 -- the lane or the element at an index, where these lanes are active
-abbrev pub told_part : Form → (is_read_only : Bool) → Lanes → model.Variable → List ℕ → ℕ → ToldVariable
-told_part form is_read_only lanes v words index = record {
+abbrev pub told_part : Form → Lanes → model.Variable → List ℕ → ℕ → ToldVariable
+told_part form lanes v words index = record {
   name = utf8_lossy v.name ++ index_text (Some index);
   value = values form v.type (part_shown (Some index) words);
   type = type_name v.type;
   kind = part_kind (waits_at lanes v.is_array index);
   is_constant = v.is_constant;
-  is_read_only = is_read_only;
+  is_read_only = false;
   parts = place.Nothing;
 }
 
 -- so many lanes or elements from one on, as a page asks for them
-abbrev pub told_between : Form → (is_read_only : Bool) → Page → Lanes → model.Variable → List ℕ → (first count : ℕ) → List ToldVariable
-told_between form is_read_only page lanes v words first count = map (told_part form is_read_only lanes v words) (paged page (range_with_len first count))
+abbrev pub told_between : Form → Page → Lanes → model.Variable → List ℕ → (first count : ℕ) → List ToldVariable
+told_between form page lanes v words first count = map (told_part form lanes v words) (paged page (range_with_len first count))
 
 -- how many elements a range of an array of so many has: 1,000, but the last range what is left
 abbrev pub range_count : (count range : ℕ) → ℕ
 range_count count range = min 1000 (count - range * 1000)
 
 -- a range of an array: NAME[FIRST..LAST], whose elements are at a place
-abbrev pub told_range : (is_read_only : Bool) → model.Variable → (count : ℕ) → Place → (range : ℕ) → ToldVariable
-told_range is_read_only v count at range = record {
+abbrev pub told_range : model.Variable → (count : ℕ) → Place → (range : ℕ) → ToldVariable
+told_range v count at range = record {
   name = utf8_lossy v.name ++ (codes "[" ++ (decimal (range * 1000) ++ (codes ".." ++ (decimal (range * 1000 + range_count count range - 1) ++ codes "]"))));
   value = decimal (range_count count range) ++ codes " elements";
   type = type_name v.type;
   kind = kind.Range;
   is_constant = v.is_constant;
-  is_read_only = is_read_only;
+  is_read_only = false;
   parts = within (range_of at range);
 }
 
@@ -154,28 +154,28 @@ abbrev pub ranges_in : (count : ℕ) → ℕ
 ranges_in count = (count + 999) / 1000
 
 -- the ranges of an array whose parts are at a place
-abbrev pub told_ranges : (is_read_only : Bool) → model.Variable → (count : ℕ) → Place → List ToldVariable
-told_ranges is_read_only v count at = map (told_range is_read_only v count at) (range_with_len 0 (ranges_in count))
+abbrev pub told_ranges : model.Variable → (count : ℕ) → Place → List ToldVariable
+told_ranges v count at = map (told_range v count at) (range_with_len 0 (ranges_in count))
 
 -- The lanes or elements of a variable whose parts are at a place, as a page asks for them; ranges of them where there are more than 1,000 and no place is
 -- asked for. A uniform scalar has none.
-abbrev pub told_all : Form → (is_read_only : Bool) → Page → Lanes → Place → model.Variable → List ℕ → List ToldVariable
-told_all form is_read_only page lanes at v words =
+abbrev pub told_all : Form → Page → Lanes → Place → model.Variable → List ℕ → List ToldVariable
+told_all form page lanes at v words =
     if not (has_parts v) then []
-    else (if asks_places page || nat_le (length words) 1000 then told_between form is_read_only page lanes v words 0 (length words) else told_ranges is_read_only v (length words) at)
+    else (if asks_places page || nat_le (length words) 1000 then told_between form page lanes v words 0 (length words) else told_ranges v (length words) at)
 
 -- these, unless a page asks for variables alone
-abbrev pub told_parts : Form → (is_read_only : Bool) → Page → Lanes → Place → model.Variable → List ℕ → List ToldVariable
-told_parts form is_read_only page lanes at v words = indexed_children page.filter (told_all form is_read_only page lanes at v words)
+abbrev pub told_parts : Form → Page → Lanes → Place → model.Variable → List ℕ → List ToldVariable
+told_parts form page lanes at v words = indexed_children page.filter (told_all form page lanes at v words)
 
 -- whether a variable of so many elements has this range
 abbrev pub has_range : (is_array : Bool) → (count range : ℕ) → Bool
 has_range is_array count range = is_array && (nat_lt 1000 count && nat_lt (range * 1000) count)
 
 -- the elements of a range, as a page asks for them
-abbrev pub told_of_range : Form → (is_read_only : Bool) → Page → Lanes → (range : ℕ) → model.Variable → List ℕ → List ToldVariable
-told_of_range form is_read_only page lanes range v words =
-    indexed_children page.filter (told_between form is_read_only page lanes v words (range * 1000) (range_count (length words) range))
+abbrev pub told_of_range : Form → Page → Lanes → (range : ℕ) → model.Variable → List ℕ → List ToldVariable
+told_of_range form page lanes range v words =
+    indexed_children page.filter (told_between form page lanes v words (range * 1000) (range_count (length words) range))
 
 -- ---- the variables of a frame
 
@@ -192,13 +192,9 @@ is_it (Some other) v = same_id other.id v.id
 abbrev pub is_found : Setting → Debugger → (depth : ℕ) → model.Variable → Bool
 is_found s d deep v = is_it (found_at s.program deep (now s d) v.name) v
 
--- whether the frame at a depth is another one than the top one: its variables are only looked at
-abbrev pub is_outer : Setting → Debugger → (depth : ℕ) → Bool
-is_outer s d deep = not (deep == depth (now s d))
-
 -- a variable whose lanes or elements are at a place, if its name finds it in the frame at a depth
 abbrev pub told_one : Form → Setting → Debugger → (depth : ℕ) → Place → model.Variable → List ToldVariable
-told_one form s d deep parts v = if is_found s d deep v then told_whole form (is_outer s d deep) v (words_at s d deep v) parts ∷ [] else []
+told_one form s d deep parts v = if is_found s d deep v then told_whole form v (words_at s d deep v) parts ∷ [] else []
 
 -- those of some variables that their names find in the frame at a depth; the lanes or elements of each are at the place of its number
 abbrev pub told_each : Form → Setting → Debugger → (depth : ℕ) → (place : ℕ → Place) → (number : ℕ) → List model.Variable → List ToldVariable
@@ -212,13 +208,13 @@ lanes_at s d deep = shown_lanes (now s d) deep
 -- the lanes or elements of a variable in the frame at a depth, if there is such a variable
 abbrev pub told_option : Form → Page → Setting → Debugger → (depth : ℕ) → Place → Option model.Variable → Option (List ToldVariable)
 told_option form page s d deep at None = None
-told_option form page s d deep at (Some v) = Some (told_parts form (is_outer s d deep) page (lanes_at s d deep) at v (words_at s d deep v))
+told_option form page s d deep at (Some v) = Some (told_parts form page (lanes_at s d deep) at v (words_at s d deep v))
 
 -- a range of the elements of a variable in the frame at a depth, if there is such a variable and it has the range
 abbrev pub told_range_option : Form → Page → Setting → Debugger → (depth range : ℕ) → Option model.Variable → Option (List ToldVariable)
 told_range_option form page s d deep range None = None
 told_range_option form page s d deep range (Some v) =
-    if has_range v.is_array (length (words_at s d deep v)) range then Some (told_of_range form (is_outer s d deep) page (lanes_at s d deep) range v (words_at s d deep v)) else None
+    if has_range v.is_array (length (words_at s d deep v)) range then Some (told_of_range form page (lanes_at s d deep) range v (words_at s d deep v)) else None
 
 -- those of a scope, as a page asks for them
 abbrev pub told_scope : Page → List ToldVariable → List ToldVariable

@@ -9,14 +9,15 @@ ghost use Rattle.adapter_replies.specs.Asking.{asking_of, asking_view};
 ghost use Rattle.adapter_replies.specs.Forms.{form_if};
 ghost use Rattle.adapter_replies.specs.Opened.{unless_refused};
 ghost use Rattle.adapter_replies.specs.References.{place_of};
-ghost use Rattle.adapter_replies.specs.Told.{IsAnsweredIn, IsEvaluated, IsLineTold, IsLookedUp, IsSetTold, IsTextTold, MeansLast, has_values, is_expression, is_line, is_told_whole, is_unnamed, shown_option, shown_values, told_place};
+ghost use Rattle.adapter_replies.specs.Told.{IsAnsweredIn, IsEvaluated, IsLineTold, IsLookedUp, IsPrinted, IsSetTold, IsTextTold, MeansLast, has_values, is_expression, is_line, is_told_whole, is_unnamed, shown_option, shown_values, told_place};
 
 use crate::asking::{Asking, asking_of};
 use crate::expressions::shown_in;
 use crate::forms::{Form, form_if};
 use crate::opened::opened_by;
 use crate::places::{depth_of, is_frame};
-use crate::replies::{NO_FRAME, refused};
+use crate::replies::{NO_FRAME, frame_or, refused};
+use crate::setting::{set_line, set_unsaid};
 use crate::stops::stop_of;
 use crate::targets::found;
 use crate::texts::{answer_text, top_text};
@@ -28,7 +29,7 @@ use frame_expressions::ExpressionMachine;
 use std::alloc::{AllocError, Global};
 
 /// Why a variable is not set.
-const NOT_SET: &str = "only a variable of the top frame or of the file can be set";
+const NOT_SET: &str = "only a variable of a frame or of the file can be set";
 
 /// A text that is evaluated: where it stands, and whether it asks for hexadecimal numbers.
 #[derive(Clone, Copy)]
@@ -64,7 +65,7 @@ pub(crate) fn looked_up<M: ExpressionMachine>(
     found(alloc, machine, depth, asking_in(line))
 }
 
-/// The value that a variable was given, or why it was not.
+/// The value that a variable was given in the top frame, or why it was not.
 pub(crate) fn set<M: FramedMachine>(
     alloc: Global,
     machine: &M,
@@ -102,18 +103,42 @@ fn values_of<M: FramedMachine>(
     Ok(Some(values))
 }
 
+/// What is told of a text for which a command was done: of one that has set a value in another frame than the top one its values there.
+pub(crate) fn done<M: ExpressionMachine>(
+    alloc: Global,
+    machine: &M,
+    stops: &[NumberedStop],
+    frame: Option<u64>,
+    line: Line<'_>,
+    answer: Answer<'_>,
+) -> Result<Reply, AllocError>
+    ensures stands { (s : Setting) (d : Debugger) → M.stands machine.now s d → IfOk result (IsLookedUp s d (Some answer.entry) frame line.entry.context line.entry.text.now line.entry.is_hexadecimal) }
+    ensures answered { (s : Setting) (at d : Debugger) (meant : model.Answer) → M.stands machine.now s at → at.events ≡ d.events → AreStops s stops.now d.stops
+        → Means s d answer.entry meant
+        → IfOk result (λ told. IsEvaluated line.entry.context line.entry.text.now line.entry.is_hexadecimal (Some answer.entry) (text s meant d) (shown_values (now s d) meant (form_if line.entry.is_hexadecimal)) told) }
+{
+    match set_unsaid(&answer, line) {
+        Some(target) => {
+            let depth = frame_or(depth_of(machine), frame);
+            set_line(alloc, machine, depth, line, target)
+        }
+        None => evaluated(alloc, machine, stops, line, answer),
+    }
+}
+
 /// The value of an expression in the top frame, or the answer to a line of the console; or why there is none.
-pub(crate) fn evaluated<M: ExpressionMachine>(
+fn evaluated<M: ExpressionMachine>(
     alloc: Global,
     machine: &M,
     stops: &[NumberedStop],
     line: Line<'_>,
     answer: Answer<'_>,
 ) -> Result<Reply, AllocError>
-    ensures stands { (s : Setting) (d : Debugger) → M.stands machine.now s d → IfOk result (IsLookedUp s d (Some answer.entry) None line.entry.context line.entry.text.now line.entry.is_hexadecimal) }
+    ensures stands { (s : Setting) (d : Debugger) → M.stands machine.now s d
+        → IfOk result (IsPrinted (is_expression line.entry.context line.entry.text.now answer.entry) s d (asking_of line.entry.context line.entry.text.now line.entry.is_hexadecimal) answer.entry) }
     ensures answered { (s : Setting) (at d : Debugger) (meant : model.Answer) → M.stands machine.now s at → at.events ≡ d.events → AreStops s stops.now d.stops
         → Means s d answer.entry meant
-        → IfOk result (λ told. IsEvaluated line.entry.context line.entry.text.now line.entry.is_hexadecimal (Some answer.entry) (text s meant d) (shown_values (now s d) meant (form_if line.entry.is_hexadecimal)) told) }
+        → IfOk result (IsAnsweredIn (is_expression line.entry.context line.entry.text.now answer.entry) line.entry.context line.entry.is_hexadecimal answer.entry (text s meant d) (shown_values (now s d) meant (form_if line.entry.is_hexadecimal))) }
 {
     if is_expression(line.context, line.text, &answer) {
         return found(alloc, machine, depth_of(machine), asking_in(line));

@@ -5,12 +5,12 @@ ghost use Rattle.gang_types.specs.Masks.{IsGangWidth};
 ghost use Rattle.gang_model.specs.Types.Tree as model;
 ghost use Rattle.gang_model.specs.Debugger.Debugger.{Debugger, Setting};
 ghost use Rattle.debug_traits.specs.Frames.{ShowsNamedAt};
-ghost use Rattle.adapter_replies.specs.Variables.{ShowsOptionAt, has_range, is_outer, is_varying, part_kind, range_count, ranges_in, told_all, told_between, told_of_range, told_option, told_part, told_parts, told_range, told_range_option, told_ranges, lanes_at, type_name, variable_view, waits_at, words_at};
+ghost use Rattle.adapter_replies.specs.Variables.{ShowsOptionAt, has_range, is_varying, part_kind, range_count, ranges_in, told_all, told_between, told_of_range, told_option, told_part, told_parts, told_range, told_range_option, told_ranges, lanes_at, type_name, variable_view, waits_at, words_at};
 ghost use Rattle.adapter_replies.specs.Waiting.{position_lanes};
 
 use crate::forms::Form;
 use crate::pages::{asks_places, span};
-use crate::places::{Place, is_outer, range_of, reference_of};
+use crate::places::{Place, range_of, reference_of};
 use crate::texts::element_text;
 use crate::waiting::{standing, waits};
 use adapter_requests::{Filter, Page, Variable, VariableKind};
@@ -73,7 +73,7 @@ fn parts<M: FramedMachine>(
     page: Page,
 ) -> Result<Vec<Variable>, AllocError>
     ensures { (s : Setting) (d : Debugger) (v : model.Variable) → M.stands machine.now s d → ShowsNamedAt s d depth v named.entry
-        → IfOk result (λ told. map variable_view told.items ≡ told_parts form (is_outer s d depth) page (lanes_at s d depth) place v (words_at s d depth v)) }
+        → IfOk result (λ told. map variable_view told.items ≡ told_parts form page (lanes_at s d depth) place v (words_at s d depth v)) }
 {
     match page.filter {
         Filter::Named => Ok(Vec::new(alloc)),
@@ -92,7 +92,7 @@ fn all_parts<M: FramedMachine>(
     page: Page,
 ) -> Result<Vec<Variable>, AllocError>
     ensures { (s : Setting) (d : Debugger) (v : model.Variable) → M.stands machine.now s d → ShowsNamedAt s d depth v named.entry
-        → IfOk result (λ told. map variable_view told.items ≡ told_all form (is_outer s d depth) page (lanes_at s d depth) place v (words_at s d depth v)) }
+        → IfOk result (λ told. map variable_view told.items ≡ told_all form page (lanes_at s d depth) place v (words_at s d depth v)) }
 {
     let count = named.shown.count;
     if !has_parts(named.shown) {
@@ -100,7 +100,7 @@ fn all_parts<M: FramedMachine>(
     } else if asks_places(page) || count <= RANGE {
         between(alloc, machine, form, depth, named, page, 0, count)
     } else {
-        ranges(alloc, is_outer(machine, depth), named, place)
+        ranges(alloc, named, place)
     }
 }
 
@@ -123,7 +123,7 @@ fn range_parts<M: FramedMachine>(
 ) -> Result<Vec<Variable>, AllocError>
     requires { range * 1000 < named.shown.count }
     ensures { (s : Setting) (d : Debugger) (v : model.Variable) → M.stands machine.now s d → ShowsNamedAt s d depth v named.entry
-        → IfOk result (λ told. map variable_view told.items ≡ told_of_range form (is_outer s d depth) page (lanes_at s d depth) range v (words_at s d depth v)) }
+        → IfOk result (λ told. map variable_view told.items ≡ told_of_range form page (lanes_at s d depth) range v (words_at s d depth v)) }
 {
     match page.filter {
         Filter::Named => Ok(Vec::new(alloc)),
@@ -156,7 +156,7 @@ fn between<M: FramedMachine>(
 ) -> Result<Vec<Variable>, AllocError>
     requires { first + count ≤ named.shown.count }
     ensures { (s : Setting) (d : Debugger) (v : model.Variable) → M.stands machine.now s d → ShowsNamedAt s d depth v named.entry
-        → IfOk result (λ told. map variable_view told.items ≡ told_between form (is_outer s d depth) page (lanes_at s d depth) v (words_at s d depth v) first count) }
+        → IfOk result (λ told. map variable_view told.items ≡ told_between form page (lanes_at s d depth) v (words_at s d depth v) first count) }
 {
     let (first, count) = span(page, first, count);
     let position = standing(machine, depth);
@@ -177,7 +177,7 @@ fn parts_from<M: FramedMachine>(
     requires width { IfSome position (λ at. IsGangWidth at.width) }
     requires within { first + count ≤ named.shown.count }
     ensures { (s : Setting) (d : Debugger) (v : model.Variable) → M.stands machine.now s d → ShowsNamedAt s d depth v named.entry
-        → IfOk result (λ told. map variable_view told.items ≡ map (told_part form (is_outer s d depth) (position_lanes position.entry) v (words_at s d depth v)) (range_with_len first count)) }
+        → IfOk result (λ told. map variable_view told.items ≡ map (told_part form (position_lanes position.entry) v (words_at s d depth v)) (range_with_len first count)) }
 {
     let mut told = Vec::new(alloc);
     for offset in 0..count {
@@ -198,7 +198,7 @@ fn part<M: FramedMachine>(
 ) -> Result<Variable, AllocError>
     requires { IfSome position (λ at. IsGangWidth at.width) }
     ensures { (s : Setting) (d : Debugger) (v : model.Variable) → M.stands machine.now s d → ShowsNamedAt s d depth v named.entry
-        → index < named.entry.shown.count → IfOk result (λ told. variable_view told ≡ told_part form (is_outer s d depth) (position_lanes position.entry) v (words_at s d depth v) index) }
+        → index < named.entry.shown.count → IfOk result (λ told. variable_view told ≡ told_part form (position_lanes position.entry) v (words_at s d depth v) index) }
 {
     let shown = named.shown;
     let mut name = String::from_utf8_lossy(alloc, named.name)?;
@@ -209,7 +209,7 @@ fn part<M: FramedMachine>(
         type_name: String::from_str(alloc, type_name(shown.value_type))?,
         kind: part_kind(waits_at(shown.is_array, position, index)),
         is_constant: shown.is_constant,
-        is_read_only: is_outer(machine, depth),
+        is_read_only: false,
         reference: 0,
     })
 }
@@ -236,16 +236,15 @@ fn part_kind(waits: bool) -> VariableKind
 /// The ranges of an array whose parts are at a place.
 fn ranges(
     alloc: Global,
-    is_read_only: bool,
     named: NamedVariable<'_>,
     place: Place,
 ) -> Result<Vec<Variable>, AllocError>
     ensures { (s : Setting) (d : Debugger) (depth : ℕ) (v : model.Variable) → ShowsNamedAt s d depth v named.entry
-        → IfOk result (λ told. map variable_view told.items ≡ told_ranges is_read_only v named.entry.shown.count place) }
+        → IfOk result (λ told. map variable_view told.items ≡ told_ranges v named.entry.shown.count place) }
 {
     let mut told = Vec::new(alloc);
     for range in 0..ranges_in(named.shown.count) {
-        told.push(range_shown(alloc, is_read_only, named, place, range)?)?;
+        told.push(range_shown(alloc, named, place, range)?)?;
     }
     Ok(told)
 }
@@ -269,14 +268,13 @@ fn range_count(count: usize, range: usize) -> usize
 /// A range of an array whose parts are at a place.
 fn range_shown(
     alloc: Global,
-    is_read_only: bool,
     named: NamedVariable<'_>,
     place: Place,
     range: usize,
 ) -> Result<Variable, AllocError>
     requires { range * 1000 < named.shown.count }
     ensures { (s : Setting) (d : Debugger) (depth : ℕ) (v : model.Variable) → ShowsNamedAt s d depth v named.entry
-        → IfOk result (λ told. variable_view told ≡ told_range is_read_only v named.entry.shown.count place range) }
+        → IfOk result (λ told. variable_view told ≡ told_range v named.entry.shown.count place range) }
 {
     let shown = named.shown;
     let first = range * RANGE;
@@ -290,7 +288,7 @@ fn range_shown(
         type_name: String::from_str(alloc, type_name(shown.value_type))?,
         kind: VariableKind::Range,
         is_constant: shown.is_constant,
-        is_read_only,
+        is_read_only: false,
         reference: reference_of(range_of(place, range)),
     })
 }

@@ -3,8 +3,7 @@ ghost use Rattle.std.specs.Prelude.{◌≡◌, ◌<◌, ◌*◌, ◌/◌, ◌%�
 ghost use Rattle.gang_model.specs.Debugger.Debugger as model;
 ghost use Rattle.gang_model.specs.Debugger.Debugger.{Debugger, Setting, now};
 ghost use Rattle.adapter_replies.specs.References as spec;
-ghost use Rattle.adapter_replies.specs.References.{expression_at, has_range_room, has_room, is_frame, is_set_there, is_there, numbered, place_now, place_of, range_of, within};
-ghost use Rattle.adapter_replies.specs.Variables.{is_outer};
+ghost use Rattle.adapter_replies.specs.References.{depth_in, expression_at, has_range_room, has_room, is_frame, is_set_there, is_there, numbered, place_now, place_of, range_of, within};
 ghost use Rattle.adapter_replies.specs.declared.places.Place.TheVariants as place;
 
 use debug_traits::RecordedMachine;
@@ -80,13 +79,6 @@ pub fn depth_of<M: RecordedMachine>(machine: &M) -> usize
         None => 1,
         Some(position) => position.depth,
     }
-}
-
-/// Whether the frame at a depth is another one than the top one: its variables are only looked at.
-pub(crate) fn is_outer<M: RecordedMachine>(machine: &M, depth: usize) -> bool
-    ensures { (s : Setting) (d : Debugger) → M.stands machine.now s d → result ≡ is_outer s d depth }
-{
-    depth != depth_of(machine)
 }
 
 /// Whether a program of this depth has a frame at another one.
@@ -317,25 +309,51 @@ fn is_there(top: usize, place: Place) -> bool
     }
 }
 
-/// Whether a variable is set that is one of those of a reference, where the program has this depth: in the top frame, or in the
-/// file.
+/// Whether a variable is set that is one of those of a reference, where the program has this depth: in a frame that is there, or in
+/// the file.
 pub fn is_set_there(top: usize, reference: u64) -> bool
     ensures { result ≡ is_set_there top (place_of reference) }
 {
     match place_of(reference) {
-        Place::Variables { scope: _, depth } => depth == top,
+        Place::Variables { scope: _, depth } => is_frame(top, depth),
         Place::Parts {
             scope: _,
             depth,
             number: _,
-        } => depth == top,
+        } => is_frame(top, depth),
         Place::Range {
             scope: _,
             depth,
             number: _,
             range: _,
-        } => depth == top,
+        } => is_frame(top, depth),
         Place::File | Place::OfFile(_) | Place::FileRange { .. } => true,
         Place::Expression { .. } | Place::Nothing => false,
+    }
+}
+
+/// The depth of the frame in which what a reference stands for is looked up, where the program has this depth: the top one's, where it
+/// is in no frame.
+pub fn depth_in(top: usize, reference: u64) -> usize
+    ensures { result ≡ depth_in top (place_of reference) }
+{
+    match place_of(reference) {
+        Place::Variables { scope: _, depth } => depth,
+        Place::Parts {
+            scope: _,
+            depth,
+            number: _,
+        } => depth,
+        Place::Range {
+            scope: _,
+            depth,
+            number: _,
+            range: _,
+        } => depth,
+        Place::File
+        | Place::OfFile(_)
+        | Place::FileRange { .. }
+        | Place::Expression { .. }
+        | Place::Nothing => top,
     }
 }

@@ -16,13 +16,14 @@ ghost use Rattle.adapter_replies.specs.Told.{AreBreakpointsTold, AreCompletionsT
 use crate::breakpoints::{breakpoints, functions, watchable, watches};
 use crate::columns::front_of;
 use crate::completions::completions;
-use crate::evaluating::{Line, evaluated, looked_up, set};
+use crate::evaluating::{Line, done, looked_up};
 use crate::exceptions::NO_FAULT;
 use crate::forms::{Form, form_if};
 use crate::frames::{frames, frames_reply};
 use crate::locations::{goto_line, locations};
 use crate::places::{Place, Scope, depth_of, is_frame, reference_of};
 use crate::scopes::variables;
+use crate::setting::{set_expression, set_variable};
 use crate::stops::{goto_reason, stop_of};
 use crate::texts::answer_text;
 use adapter_requests::{Page, Reply, Request, Scopes, Stop, StopReason, Thread};
@@ -151,10 +152,34 @@ fn valued<M: ExpressionMachine>(
         → IfOk result (IsValueAnswered last.entry (text s meant d) (shown_values (now s d) meant) request.now) }
 {
     match request {
-        Request::SetVariable { is_hexadecimal, .. }
-        | Request::SetExpression { is_hexadecimal, .. } => {
-            set(alloc, machine, stops, *is_hexadecimal, last)
-        }
+        Request::SetVariable {
+            reference,
+            name,
+            value: _,
+            is_hexadecimal,
+        } => set_variable(
+            alloc,
+            machine,
+            stops,
+            *reference,
+            name,
+            *is_hexadecimal,
+            last,
+        ),
+        Request::SetExpression {
+            expression,
+            value: _,
+            frame,
+            is_hexadecimal,
+        } => set_expression(
+            alloc,
+            machine,
+            stops,
+            *frame,
+            expression,
+            *is_hexadecimal,
+            last,
+        ),
         Request::Evaluate {
             expression,
             frame,
@@ -167,7 +192,7 @@ fn valued<M: ExpressionMachine>(
                 is_hexadecimal: *is_hexadecimal,
             };
             match last {
-                Some(answer) => evaluated(alloc, machine, stops, line, answer),
+                Some(answer) => done(alloc, machine, stops, *frame, line, answer),
                 None => looked_up(alloc, machine, *frame, line),
             }
         }

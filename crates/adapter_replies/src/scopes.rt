@@ -6,13 +6,13 @@ ghost use Rattle.gang_model.specs.Debugger.Debugger.{Debugger, Setting, now};
 ghost use Rattle.debug_traits.specs.Frames.{IsShownAt, ShowsNamedAt, ShowsNextAt};
 ghost use Rattle.debug_traits.specs.Machines.{file_variables};
 ghost use Rattle.adapter_replies.specs.References.{place_of};
-ghost use Rattle.adapter_replies.specs.Variables.{ShowsOptionAt, is_found, is_outer, of_scope, scope_list, told_each, told_now, told_one, told_option, told_whole, type_text, variable_view, whole_kind, whole_text, words_at};
+ghost use Rattle.adapter_replies.specs.Variables.{ShowsOptionAt, is_found, of_scope, scope_list, told_each, told_now, told_one, told_option, told_whole, type_text, variable_view, whole_kind, whole_text, words_at};
 ghost use Rattle.adapter_replies.specs.declared.places.Place.TheVariants as place;
 
 use crate::forms::Form;
 use crate::pages::named_of;
 use crate::parts::{has_parts, parts_of, range_parts_of, type_name};
-use crate::places::{Place, Scope, depth_of, is_outer, place_now, reference_of};
+use crate::places::{Place, Scope, depth_of, place_now, reference_of};
 use crate::texts::value_text_at;
 use adapter_requests::{Page, Variable, VariableKind};
 use debug_traits::{FramedMachine, NamedVariable, NextLocal, Shown};
@@ -272,7 +272,7 @@ fn whole<M: FramedMachine>(
     reference: u64,
 ) -> Result<Variable, AllocError>
     ensures { (s : Setting) (d : Debugger) (v : model.Variable) → M.stands machine.now s d → ShowsNamedAt s d depth v named.entry
-        → IfOk result (λ told. variable_view told ≡ told_whole form (is_outer s d depth) v (words_at s d depth v) (place_of reference)) }
+        → IfOk result (λ told. variable_view told ≡ told_whole form v (words_at s d depth v) (place_of reference)) }
 {
     let shown = named.shown;
     Ok(Variable {
@@ -281,7 +281,7 @@ fn whole<M: FramedMachine>(
         type_name: type_text(alloc, shown)?,
         kind: whole_kind(shown.is_array, shown.count),
         is_constant: shown.is_constant,
-        is_read_only: is_outer(machine, depth),
+        is_read_only: false,
         reference: if has_parts(shown) { reference } else { 0 },
     })
 }

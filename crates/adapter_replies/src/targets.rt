@@ -58,7 +58,7 @@ fn target_of(line: &[u8]) -> Option<Target<'_>>
 }
 
 /// What a target shows in the frame at a depth; where there is none, or its name finds nothing there, the text is an expression.
-fn named<M: ExpressionMachine>(
+pub(crate) fn named<M: ExpressionMachine>(
     alloc: Global,
     machine: &M,
     depth: usize,

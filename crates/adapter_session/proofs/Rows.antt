@@ -1,8 +1,8 @@
 -- Worked rows of what a restart does, of what going to a line does, of the stop button, of messages, and of lines in the words of the prompt.
 use Rattle.std.proofs.Common.{◌≡◌, refl, true, false, None, Some, ℕ, List, [], ◌∷◌, codes}
-use Rattle.std.specs.Prelude.{not, option_map}
+use Rattle.std.specs.Prelude.{option_map, pos}
 use Rattle.gang_model.specs.Types.Tree.{Program, Variable}
-use Rattle.gang_model.specs.Debugger.Debugger.{Debugger, DoBreak, DoContinue, DoDelete, DoReverseContinue, DoWatch, Line, Setting, Stop, Target, Watch}
+use Rattle.gang_model.specs.Debugger.Debugger.{Debugger, DoBreak, DoContinue, DoDelete, DoReverseContinue, DoSet, DoSetIn, DoStep, DoWatch, Line, Setting, Stop, Target, Watch}
 use Rattle.debug_answers.specs.declared.answer.Answer.TheVariants as answer
 use Rattle.gang_model.specs.Texts.CommandText.{command_of}
 use Rattle.gang_model.specs.Texts.Text.{Bytes}
@@ -10,10 +10,11 @@ use Rattle.conditional_stops.specs.Tables.{nothing}
 use Rattle.log_points.specs.Points.{Log}
 use Rattle.adapter_requests.specs.declared.request.Request.TheVariants as request
 use Rattle.adapter_requests.specs.declared.request.Way.TheVariants.{Backwards, Forwards}
+use Rattle.adapter_replies.specs.References.{depth_in, place_of}
 use Rattle.adapter_session.specs.declared.lines.Kind.TheVariants.{Functions, Lines}
 use Rattle.adapter_session.specs.Changes.{staying}
 use Rattle.adapter_session.specs.Going.{going, is_at, reached}
-use Rattle.adapter_session.specs.Requested.{break_at, commands_of, is_elsewhere, numbers_of, set_lines, test_of}
+use Rattle.adapter_session.specs.Requested.{all_in_frame, break_at, commands_of, evaluated, has_frame, is_elsewhere, numbers_of, outer, outer_frame, set_lines, spelled, test_of}
 use Rattle.function_lines.specs.Lines.{function_line}
 use Rattle.adapter_session.specs.Restored.{made_in, stop_commands, with_made}
 use Rattle.adapter_session.specs.Terms.{FunctionStop, anew, carried_functions, carried_logs, changed, first_logged, name_of}
@@ -50,12 +51,42 @@ at_the_line = refl
 on_the_way : reached (is_at (Some 3) (answer.AtBreakpoint 2)) (answer.AtBreakpoint 2) ≡ answer.AtBreakpoint 2
 on_the_way = refl
 
--- what an expression names is set in the top frame, and not in an outer one
-in_the_top_frame : set_lines (not (is_elsewhere 2 (Some 2))) (codes "x") (codes "7") ≡ codes "set var x = 7" ∷ []
+-- what an expression names is set in the frame that is asked for, where it is there: at depth 2 in the top one, at depth 1 in the one that called it, and
+-- at depth 3 in none
+abbrev x : Target
+x = record { name = codes "x"; at = None }
+
+in_the_top_frame : all_in_frame (outer_frame 2 (Some 2)) (spelled (set_lines (has_frame 2 (Some 2)) (codes "x") (codes "7"))) ≡ DoSet x (pos 7) ∷ []
 in_the_top_frame = refl
 
-in_an_outer_frame : set_lines (not (is_elsewhere 2 (Some 1))) (codes "x") (codes "7") ≡ []
+in_an_outer_frame : all_in_frame (outer_frame 2 (Some 1)) (spelled (set_lines (has_frame 2 (Some 1)) (codes "x") (codes "7"))) ≡ DoSetIn 1 x (pos 7) ∷ []
 in_an_outer_frame = refl
+
+in_no_frame : all_in_frame (outer_frame 2 (Some 3)) (spelled (set_lines (has_frame 2 (Some 3)) (codes "x") (codes "7"))) ≡ []
+in_no_frame = refl
+
+where_none_is_asked_for : all_in_frame (outer_frame 2 None) (spelled (set_lines (has_frame 2 None) (codes "x") (codes "7"))) ≡ DoSet x (pos 7) ∷ []
+where_none_is_asked_for = refl
+
+-- the lanes of the second local variable of the outer frame, and those of a variable of the file
+of_the_outer_frame : outer 2 (depth_in 2 (place_of 1013)) ≡ Some 1
+of_the_outer_frame = refl
+
+of_the_file : outer 2 (depth_in 2 (place_of 2006)) ≡ None
+of_the_file = refl
+
+-- a line of the console: it steps in each frame, and sets a value in the one that is asked for, if it is there
+steps_in_an_outer_frame : all_in_frame (outer_frame 2 (Some 1)) (spelled (evaluated true (is_elsewhere 2 (Some 1)) (has_frame 2 (Some 1)) (codes "step 2"))) ≡ DoStep 2 ∷ []
+steps_in_an_outer_frame = refl
+
+sets_in_an_outer_frame : all_in_frame (outer_frame 2 (Some 1)) (spelled (evaluated true (is_elsewhere 2 (Some 1)) (has_frame 2 (Some 1)) (codes "set var x = 7"))) ≡ DoSetIn 1 x (pos 7) ∷ []
+sets_in_an_outer_frame = refl
+
+sets_in_no_frame : all_in_frame (outer_frame 2 (Some 3)) (spelled (evaluated true (is_elsewhere 2 (Some 3)) (has_frame 2 (Some 3)) (codes "set var x = 7"))) ≡ []
+sets_in_no_frame = refl
+
+looks_at_no_other : all_in_frame (outer_frame 2 (Some 1)) (spelled (evaluated true (is_elsewhere 2 (Some 1)) (has_frame 2 (Some 1)) (codes "print x"))) ≡ []
+looks_at_no_other = refl
 
 -- the stop button leaves the program as it stands
 stopped_as_it_stands : (program : Bytes) (s : Setting) (d : Debugger) → commands_of program [] s d request.Terminate ≡ []

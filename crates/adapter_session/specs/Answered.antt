@@ -13,9 +13,9 @@ use Rattle.adapter_requests.specs.declared.request.Request.TheVariants as reques
 use Rattle.adapter_requests.specs.declared.request.Way.{Way}
 use Rattle.debug_answers.specs.Meanings.{Means}
 use Rattle.adapter_replies.specs.Told.{AreBreakpointsTold, IsAnswered, IsToldOf, MeansLast, fixed_reply, refusal_text, shown_values, told_stop}
-use Rattle.adapter_session.specs.Doing.{DoesLines}
+use Rattle.adapter_session.specs.Doing.{DoesLinesIn}
 use Rattle.adapter_session.specs.Going.{goto_of, goto_reply, is_at, made_number, reached}
-use Rattle.adapter_session.specs.Requested.{is_program, lines_of}
+use Rattle.adapter_session.specs.Requested.{frame_of, is_program, lines_of}
 
 -- whether a request is of breakpoints in the program's source
 abbrev pub is_source_of : (program : Bytes) → Request → Bool
@@ -40,7 +40,7 @@ MayTell s program d last meant request told = (told ≡ reply.OutOfMemory) ⊎ T
 -- the lines of a request were done, and it is told what its last answer means where the session stands for a debugger after them
 pub record IsToldByLines {M : Type 0} (stands : M → Setting → Debugger → Type 0) (s : Setting) (program : Bytes) (functions : List ℕ) (request : Request) (d : Debugger) (told : Reply) (new : Session M) : Type 0 where
   pub last : Option Answer
-  pub does : DoesLines stands s (lines_of s.program program functions (depth (now s d)) d.stops request) d last new
+  pub does : DoesLinesIn stands s (frame_of (depth (now s d)) request) (lines_of s.program program functions (depth (now s d)) d.stops request) d last new
   pub after : Debugger
   pub there : StandsFor stands new s after
   pub meant : model.Answer

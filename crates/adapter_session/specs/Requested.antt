@@ -1,8 +1,8 @@
 -- The commands that a request is: each is a line of the debugger.
 use Rattle.std.specs.List.{list_any}
-use Rattle.std.specs.Prelude.{ℕ, Bool, true, false, not, List, [], ◌∷◌, ◌++◌, flat_map, map, Option, Some, None, Result, Ok, Err, codes, decimal, ◌&&◌, ◌==◌, if◌then◌else◌}
+use Rattle.std.specs.Prelude.{ℕ, Bool, true, false, not, List, [], ◌∷◌, ◌++◌, flat_map, map, Option, Some, None, Result, Ok, Err, codes, decimal, ◌&&◌, ◌||◌, ◌==◌, option_map, if◌then◌else◌}
 use Rattle.gang_model.specs.Source.Names.{same_text}
-use Rattle.gang_model.specs.Debugger.Debugger.{Command, Debugger, DoInfoLocals, DoPrint, Setting, Stop, Line, Watch, depth, now}
+use Rattle.gang_model.specs.Debugger.Debugger.{Command, Debugger, DoInfoLocals, DoPrint, DoSet, DoSetIn, Setting, Stop, Line, Watch, depth, now}
 use Rattle.gang_model.specs.Types.Tree.{Program}
 use Rattle.gang_model.specs.Texts.CommandText.{command_of}
 use Rattle.gang_model.specs.Texts.Text.{Bytes}
@@ -15,7 +15,7 @@ use Rattle.adapter_requests.specs.declared.request.LineBreakpoint.{LineBreakpoin
 use Rattle.adapter_requests.specs.declared.request.Request.{Request}
 use Rattle.adapter_requests.specs.declared.request.Request.TheVariants as request
 use Rattle.adapter_requests.specs.declared.request.Way.{Way}
-use Rattle.adapter_replies.specs.References.{is_set_there, place_of}
+use Rattle.adapter_replies.specs.References.{depth_in, is_frame, is_set_there, place_of}
 use Rattle.function_lines.specs.Lines.{function_line}
 use Rattle.adapter_session.specs.declared.lines.Kind.{Kind}
 use Rattle.adapter_session.specs.declared.lines.Kind.TheVariants.{Functions, Lines, Watches}
@@ -83,6 +83,11 @@ abbrev pub is_elsewhere : (top : ℕ) → (frame : Option ℕ) → Bool
 is_elsewhere top None = false
 is_elsewhere top (Some frame) = not (frame == top)
 
+-- whether there is a frame of a number: the top one, where none is asked for
+abbrev pub has_frame : (top : ℕ) → (frame : Option ℕ) → Bool
+has_frame top None = true
+has_frame top (Some frame) = is_frame top frame
+
 -- the line that shows an expression; none does it in another frame than the top one
 abbrev pub print_lines : (is_elsewhere : Bool) → Bytes → List Bytes
 print_lines true text = []
@@ -99,14 +104,20 @@ is_look (DoPrint target) = true
 is_look DoInfoLocals = true
 is_look other = false
 
--- whether a line of the console is done as the command that it spells: one that looks at the top frame is not, where another one is looked at
-abbrev pub is_done : (is_elsewhere : Bool) → Option Command → Bool
-is_done is_elsewhere None = false
-is_done is_elsewhere (Some command) = not (is_elsewhere && is_look command)
+-- whether a command sets a value
+abbrev pub is_set : Command → Bool
+is_set (DoSet target z) = true
+is_set other = false
+
+-- whether a line of the console is done as the command that it spells: one that looks at the top frame is not, where another one is looked at, nor is one that
+-- sets a value, where no frame is there
+abbrev pub is_done : (is_elsewhere has_frame : Bool) → Option Command → Bool
+is_done is_elsewhere has_frame None = false
+is_done is_elsewhere has_frame (Some command) = not (is_elsewhere && is_look command) && (has_frame || not (is_set command))
 
 -- the line of an expression: in the console the line itself, where it spells a command that is done; else that which shows it
-abbrev pub evaluated : (is_console is_elsewhere : Bool) → Bytes → List Bytes
-evaluated is_console is_elsewhere text = if is_console && is_done is_elsewhere (command_of text) then only text else print_lines is_elsewhere text
+abbrev pub evaluated : (is_console is_elsewhere has_frame : Bool) → Bytes → List Bytes
+evaluated is_console is_elsewhere has_frame text = if is_console && is_done is_elsewhere has_frame (command_of text) then only text else print_lines is_elsewhere text
 
 -- the line that sets a target, where it can be set
 abbrev pub set_lines : (is_set : Bool) → (target value : Bytes) → List Bytes
@@ -162,8 +173,8 @@ move_lines other = []
 -- the lines of a request about a value, and those of any other that sets no breakpoint or watch
 abbrev pub value_lines : (top : ℕ) → Request → List Bytes
 value_lines top (request.SetVariable reference name value is_hexadecimal) = set_lines (is_set_there top (place_of reference)) name.now value.now
-value_lines top (request.SetExpression expression value frame is_hexadecimal) = set_lines (not (is_elsewhere top frame)) expression.now value.now
-value_lines top (request.Evaluate expression frame context is_hexadecimal) = evaluated (is_console context) (is_elsewhere top frame) expression.now
+value_lines top (request.SetExpression expression value frame is_hexadecimal) = set_lines (has_frame top frame) expression.now value.now
+value_lines top (request.Evaluate expression frame context is_hexadecimal) = evaluated (is_console context) (is_elsewhere top frame) (has_frame top frame) expression.now
 value_lines top other = move_lines other
 
 -- the lines that a request is, given a program, the path of its source, the numbers of the breakpoints of functions, its depth, and the breakpoints and watches
@@ -182,11 +193,50 @@ command_list (Some command) = command ∷ []
 abbrev pub spelled : List Bytes → List Command
 spelled lines = flat_map (λ line. command_list (command_of line)) lines
 
--- the commands by which the program goes to a time of a line, or else those that lines spell
+-- ---- the frame in which a value is set
+
+-- the depth of a frame, where it is another one than the top one
+abbrev pub outer : (top depth : ℕ) → Option ℕ
+outer top deep = if deep == top then None else Some deep
+
+abbrev pub outer_frame : (top : ℕ) → (frame : Option ℕ) → Option ℕ
+outer_frame top None = None
+outer_frame top (Some frame) = outer top frame
+
+-- the depth of the frame in which a request sets a value, where it is another one than the top one; variables of the file are in none
+abbrev pub frame_of : (top : ℕ) → Request → Option ℕ
+frame_of top (request.SetVariable reference name value is_hexadecimal) = outer top (depth_in top (place_of reference))
+frame_of top (request.SetExpression expression value frame is_hexadecimal) = outer_frame top frame
+frame_of top (request.Evaluate expression frame context is_hexadecimal) = outer_frame top frame
+frame_of top other = None
+
+-- a command in the frame at a depth: a value is set there, and any other command is the same
+abbrev pub set_at : (depth : ℕ) → Command → Command
+set_at deep (DoSet target z) = DoSetIn deep target z
+set_at deep other = other
+
+-- the same in the frame at a depth, if there is one: of a command, of one that may be spelled, and of commands
+abbrev pub set_there : (frame : Option ℕ) → Command → Command
+set_there None command = command
+set_there (Some deep) command = set_at deep command
+
+abbrev pub in_frame : (frame : Option ℕ) → Option Command → Option Command
+in_frame None command = command
+in_frame (Some deep) command = option_map (set_at deep) command
+
+abbrev pub all_in_frame : (frame : Option ℕ) → List Command → List Command
+all_in_frame None commands = commands
+all_in_frame (Some deep) commands = map (set_at deep) commands
+
+-- the commands of the lines that a request is, in its frame
+abbrev pub commands_there : Program → (program : Bytes) → (functions : List ℕ) → (top : ℕ) → List (ℕ × Stop) → Request → List Command
+commands_there p program functions top stops request = all_in_frame (frame_of top request) (spelled (lines_of p program functions top stops request))
+
+-- the commands by which the program goes to a time of a line, or else those of lines
 abbrev pub commands_by : Option (ℕ × Way) → Setting → Debugger → (spelled : List Command) → List Command
 commands_by None s d spelled = spelled
 commands_by (Some time) s d spelled = goto_commands s d time
 
 -- the commands that a request is where a debugger stands
 abbrev pub commands_of : (program : Bytes) → (functions : List ℕ) → Setting → Debugger → Request → List Command
-commands_of program functions s d request = commands_by (goto_of request) s d (spelled (lines_of s.program program functions (depth (now s d)) d.stops request))
+commands_of program functions s d request = commands_by (goto_of request) s d (commands_there s.program program functions (depth (now s d)) d.stops request)

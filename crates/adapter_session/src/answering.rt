@@ -9,18 +9,19 @@ ghost use Rattle.adapter_session.specs.Answered.{IsTold, IsToldByLines, MayTell,
 ghost use Rattle.adapter_session.specs.Changes.{change_view};
 ghost use Rattle.adapter_session.specs.Given.{all_numbers};
 ghost use Rattle.adapter_session.specs.Done.{DoesMeant, DoesPlainly, DoesRequest};
-ghost use Rattle.adapter_session.specs.Requested.{commands_of, lines_of, spelled};
+ghost use Rattle.adapter_session.specs.Requested.{commands_of, commands_there};
 ghost use Rattle.adapter_session.specs.Terms.{changed_by, function_numbers, terms_of};
 
 use crate::changes::{Change, change_of};
 use crate::counting::{go_to_counted, way_by};
-use crate::doing::do_lines;
+use crate::doing::do_lines_in;
+use crate::frames::frame_of;
 use crate::functions::function_numbers;
 use crate::going::{go_to, goto_of};
 use crate::lines::{command_lines, is_program};
 use crate::terms::Terms;
 use crate::typed::{meant_line, typed_in};
-use adapter_replies::reply_to;
+use adapter_replies::{depth_of, reply_to};
 use adapter_requests::{Context, Reply, Request};
 use conditional_stops::Verdict;
 use debug_answers::{Answer, NumberedStop};
@@ -156,13 +157,14 @@ fn answer_lines<M: ExpressionMachine>(
     request: &Request<'_>,
 ) -> Result<Reply, AllocError>
     ensures done { (s : Setting) (d : Debugger) → StandsFor M.stands session.old s d
-        → IfOk result (λ _. HasDone M.stands s (spelled (lines_of s.program program.now (function_numbers (terms_of terms.now)) (depth (now s d)) d.stops request.now)) d session.new) }
+        → IfOk result (λ _. HasDone M.stands s (commands_there s.program program.now (function_numbers (terms_of terms.now)) (depth (now s d)) d.stops request.now) d session.new) }
     ensures told { (s : Setting) (d : Debugger) → StandsFor M.stands session.old s d
         → IfOk result (λ told. IsToldByLines M.stands s program.now (function_numbers (terms_of terms.now)) request.now d told session.new) }
     ensures memory { IfErr result (λ _. session.new ≡ session.old) }
 {
     let lines = command_lines(alloc, program, terms, session, request)?;
-    let last = do_lines(session, lines.as_slice());
+    let frame = frame_of(depth_of(session.machine()), request);
+    let last = do_lines_in(session, frame, lines.as_slice());
     Ok(told(alloc, program, session, request, last))
 }
 

@@ -6,6 +6,7 @@ mod beginning;
 mod changes;
 mod counting;
 mod doing;
+mod frames;
 mod functions;
 mod going;
 mod lines;

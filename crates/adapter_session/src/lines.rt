@@ -8,9 +8,10 @@ ghost use Rattle.debug_commands.specs.Views.{command_view};
 ghost use Rattle.debug_session.specs.Sessions.{StandsFor};
 ghost use Rattle.typed_tree.specs.Views.{program_view};
 ghost use Rattle.adapter_session.specs.Given.{given_numbers, is_of, is_on_line};
-ghost use Rattle.adapter_session.specs.Requested.{break_at, break_line, delete_line, evaluated, function_line_for, is_console, is_done, is_elsewhere, is_in, is_look, is_program, line_for, lines_of, move_lines, only, set_lines, value_lines, watch_line};
+ghost use Rattle.adapter_session.specs.Requested.{break_at, break_line, delete_line, evaluated, function_line_for, is_console, is_done, is_elsewhere, is_in, is_look, is_program, is_set, line_for, lines_of, move_lines, only, set_lines, value_lines, watch_line};
 ghost use Rattle.adapter_session.specs.Terms.{function_numbers, terms_of};
 
+use crate::frames::has_frame;
 use crate::functions::function_numbers;
 use crate::terms::Terms;
 use adapter_replies::{depth_of, is_set_there};
@@ -127,7 +128,7 @@ fn value_lines(
             value,
             frame,
             is_hexadecimal: _,
-        } => set_lines(alloc, !is_elsewhere(depth, *frame), expression, value),
+        } => set_lines(alloc, has_frame(depth, *frame), expression, value),
         Request::Evaluate {
             expression,
             frame,
@@ -138,6 +139,7 @@ fn value_lines(
             expression,
             is_console(*context),
             is_elsewhere(depth, *frame),
+            has_frame(depth, *frame),
         ),
         _ => move_lines(alloc, request),
     }
@@ -211,14 +213,21 @@ pub(crate) fn is_console(context: Context) -> bool
 }
 
 /// Whether a line of the console is done as the command that it spells: one that looks at the top frame is not, where another one is
-/// looked at.
-fn is_done(line: &str, is_elsewhere: bool) -> bool
-    ensures { result ≡ is_done is_elsewhere (command_of line.now) }
+/// looked at, nor is one that sets a value, where no frame is there.
+fn is_done(line: &str, is_elsewhere: bool, has_frame: bool) -> bool
+    ensures { result ≡ is_done is_elsewhere has_frame (command_of line.now) }
 {
     match read_command(line.as_bytes()) {
         None => false,
-        Some(command) => !(is_elsewhere && is_look(command)),
+        Some(command) => !(is_elsewhere && is_look(command)) && (has_frame || !is_set(command)),
     }
+}
+
+/// Whether a command sets a value.
+fn is_set(command: Command<'_>) -> bool
+    ensures { result ≡ is_set (command_view command.entry) }
+{
+    matches!(command, Command::Set { .. })
 }
 
 /// Whether a command only looks at the top frame.
@@ -235,10 +244,11 @@ fn evaluated(
     expression: &str,
     is_console: bool,
     is_elsewhere: bool,
+    has_frame: bool,
 ) -> Result<Vec<String>, AllocError>
-    ensures { IfOk result (λ lines. map string_bytes lines.items ≡ evaluated is_console is_elsewhere expression.now) }
+    ensures { IfOk result (λ lines. map string_bytes lines.items ≡ evaluated is_console is_elsewhere has_frame expression.now) }
 {
-    if is_console && is_done(expression, is_elsewhere) {
+    if is_console && is_done(expression, is_elsewhere, has_frame) {
         alone(alloc, expression)
     } else if is_elsewhere {
         Ok(Vec::new(alloc))

@@ -1,7 +1,7 @@
 -- A command that sets no value: nothing is done for it.
 use Rattle.std.proofs.Common.{◌≡◌, false, [], Option, None, Some, refl}
 use Rattle.std.proofs.lemmas.Bool.{true≢false}
-use Rattle.gang_model.specs.Debugger.Debugger.{Command, Debugger, Setting, DoBacktrace, DoBreak, DoContinue, DoDelete, DoFinish, DoInfoBreakpoints, DoInfoLocals, DoNext, DoNothing, DoPrint, DoQuit, DoReverseContinue, DoReverseFinish, DoReverseNext, DoReverseStep, DoSet, DoSetHistory, DoStep, DoUndo, DoWatch}
+use Rattle.gang_model.specs.Debugger.Debugger.{Command, Debugger, Setting, DoBacktrace, DoBreak, DoContinue, DoDelete, DoFinish, DoInfoBreakpoints, DoInfoLocals, DoNext, DoNothing, DoPrint, DoQuit, DoReverseContinue, DoReverseFinish, DoReverseNext, DoReverseStep, DoSet, DoSetHistory, DoSetIn, DoStep, DoUndo, DoWatch}
 use Rattle.prompt_scenes.specs.Holding.{Held}
 use Rattle.prompt_scenes.specs.Readings.{sets}
 use Rattle.debug_prompt.specs.Printing.{set_by}
@@ -10,6 +10,7 @@ module _ (s : Setting) (d : Debugger) (h : Held) where
   pub no_set : (command : Option Command) → sets command ≡ false → set_by s d h command ≡ []
   no_set None is = refl
   no_set (Some (DoSet target z)) is = absurd (true≢false is)
+  no_set (Some (DoSetIn deep target z)) is = absurd (true≢false is)
   no_set (Some (DoStep x)) is = refl
   no_set (Some (DoNext x)) is = refl
   no_set (Some (DoReverseStep x)) is = refl

@@ -1,8 +1,8 @@
 -- Lines, and the commands that are done for them, computed.
 use Rattle.std.proofs.Common.{◌≡◌, refl, ap}
-use Rattle.std.specs.Prelude.{ℕ, ◌^◌, true, false, List, [], ◌∷◌, pos, Some, None, codes, if◌then◌else◌}
+use Rattle.std.specs.Prelude.{ℕ, ◌^◌, ◌-◌, true, false, List, [], ◌∷◌, pos, Some, None, codes, if◌then◌else◌}
 use Rattle.std.specs.List.{list_any}
-use Rattle.gang_model.specs.Debugger.Debugger.{AtBreakpoint, Command, Debugger, DoBreak, DoContinue, DoDelete, DoPrint, DoReverseContinue, DoReverseStep, DoSet, DoStep, DoUndo, DoWatch, Ended, Line, NoGoal, Refused, Setting, StepLimit, Target, first_stop, forward, has_ended, now, on_line, reply, unless_refused}
+use Rattle.gang_model.specs.Debugger.Debugger.{AtBreakpoint, Command, Debugger, DoBreak, DoContinue, DoDelete, DoPrint, DoReverseContinue, DoReverseStep, DoSet, DoSetIn, DoStep, DoUndo, DoWatch, Ended, Line, NoGoal, Refused, Setting, StepLimit, Target, depth, first_stop, forward, has_ended, now, on_line, reply, unless_refused}
 use Rattle.gang_model.specs.Debugger.Events.{LaneOf, Poke, Step}
 use Rattle.gang_types.specs.declared.places.VarId.TheVariants as id
 use Rattle.debug_answers.specs.declared.stops.Stop.TheVariants as stop
@@ -88,6 +88,11 @@ file_row s d = refl
 outer_row : (s : Setting) (d : Debugger) → commands_of source nothing_kept (record some_held { frame = 1 }) s d (codes "print x") ≡ []
 unfolding some_held
 outer_row s d = refl
+
+-- and a value is set in that frame
+outer_set_row : (s : Setting) (d : Debugger) → commands_of source nothing_kept (record some_held { frame = 1 }) s d (codes "p x = 5") ≡ DoSetIn (depth (now s d) - 1) (record { name = codes "x"; at = None }) (pos 5) ∷ []
+unfolding some_held
+outer_set_row s d = refl
 
 -- an empty line repeats a print, and nothing behind a breakpoint
 again_row : (s : Setting) (d : Debugger) → commands_of source (kept_after nothing_kept (codes "print x")) held_at_start s d (codes "") ≡ DoPrint (record { name = codes "x"; at = None }) ∷ []

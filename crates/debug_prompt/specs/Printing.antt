@@ -1,13 +1,17 @@
 -- Lines that print, set or display a target.
-use Rattle.std.specs.Prelude.{ℕ, Bool, nat_lt, List, [], ◌∷◌, length, Option, Some, None, if◌then◌else◌}
-use Rattle.gang_model.specs.Debugger.Debugger.{Command, Debugger, DoPrint, DoSet, Setting, Target}
+use Rattle.std.specs.Prelude.{ℕ, ◌==◌, ℤ, Bool, nat_lt, List, [], ◌∷◌, length, Option, Some, None, if◌then◌else◌}
+use Rattle.gang_model.specs.Debugger.Debugger.{Command, Debugger, DoPrint, DoSet, DoSetIn, Setting, Target}
 use Rattle.prompt_scenes.specs.Holding.{Held}
-use Rattle.prompt_scenes.specs.SelectedFrame.{in_top, may_set, shows}
+use Rattle.prompt_scenes.specs.SelectedFrame.{depth_of, in_top, shows}
 use Rattle.prompt_scenes.specs.Changes.{with_display, without_display}
 
--- a target is set, where it can be
+-- a target is set in the frame that is selected
+abbrev pub set_selected : Setting → Debugger → Held → Target → (value : ℤ) → List Command
+set_selected s d h target z = if h.frame == 0 then DoSet target z ∷ [] else DoSetIn (depth_of s d h) target z ∷ []
+
+-- the same, where a command line sets one
 abbrev pub set_by : Setting → Debugger → Held → Option Command → List Command
-set_by s d h (Some (DoSet target z)) = if may_set s d h target.name then DoSet target z ∷ [] else []
+set_by s d h (Some (DoSet target z)) = set_selected s d h target z
 set_by s d h command = []
 
 -- a target is printed, else set as the other command says

@@ -1,6 +1,6 @@
 //! Values that are printed, set and displayed, in the frame that is selected.
 ghost use Rattle.std.specs.Prelude.{◌≡◌, ◌==◌, ◌∷◌, [], Some, drop, if◌then◌else◌};
-ghost use Rattle.gang_model.specs.Debugger.Debugger.{Debugger, DoPrint, DoSet, Setting, do_command, now};
+ghost use Rattle.gang_model.specs.Debugger.Debugger.{Debugger, DoPrint, Setting, do_command, now};
 ghost use Rattle.gang_model.specs.Texts.CommandText.{command_of};
 ghost use Rattle.command_lists.specs.Lists.{HasDone};
 ghost use Rattle.debug_commands.specs.Views.{target_view};
@@ -25,17 +25,13 @@ use frame_expressions::ExpressionMachine;
 use prompt_lines::{HELD, is_alone, setting_line};
 use prompt_moves::show_displays;
 use prompt_scenes::{
-    Holding, Scene, delete_of, find_part, is_shown, may_set, print_of, selected_depth, sets,
+    Holding, Scene, delete_of, find_part, is_shown, print_of, selected_depth, sets,
 };
 use prompt_texts::{Digits, Page, tell_refused, tell_unknown};
 use prompt_values::{
     Printed, Values, do_and_show, print_answer, print_expression, print_instead, print_shown,
-    show_form, show_formatted, value_instead,
+    set_and_show, show_form, show_formatted, value_instead,
 };
-
-/// Why a local variable of an outer frame is not set.
-const SETS_TOP: &[u8] =
-    b"Values of outer frames cannot be set, since what is set is of the top frame or of the file: `frame 0` first.\n";
 
 /// Prints a target, an expression or a numbered value, or sets a target where the line goes on with `=` and a value. Gives a value that was
 /// printed and has no number yet.
@@ -204,7 +200,7 @@ pub(crate) fn set_spelled<M: FramedMachine, O: AnswerWriter + Drop>(
     }
 }
 
-/// Sets a target, where it can be set.
+/// Sets a target in the frame that is selected, and shows what it has there then.
 fn set_target<M: FramedMachine, O: AnswerWriter + Drop>(
     target: Target<'_>,
     value: i128,
@@ -214,27 +210,13 @@ fn set_target<M: FramedMachine, O: AnswerWriter + Drop>(
     page: &mut Page<O>,
 )
     ensures { (s : Setting) (d : Debugger) → StandsFor M.stands session.old s d
-        → HasDone M.stands s (if selection.may_set s d (held holding.now) (target_view target.entry).name then DoSet (target_view target.entry) value ∷ [] else []) d session.new }
+        → HasDone M.stands s (printing.set_selected s d (held holding.now) (target_view target.entry) value) d session.new }
 {
-    if may_set(target.name, holding, session) {
+    if holding.is_top() {
         do_and_show(Command::Set { target, value }, scene, session, page);
     } else {
-        tell_unset(target, holding, scene, session, page);
-    }
-}
-
-/// Writes why a target is not set in an outer frame: there is none of this name, or it is none of the file.
-fn tell_unset<M: FramedMachine, O: AnswerWriter + Drop>(
-    target: Target<'_>,
-    holding: &Holding,
-    scene: Scene<'_>,
-    session: &Session<M>,
-    page: &mut Page<O>,
-) {
-    let depth = selected_depth(holding, session);
-    match find_part(target, depth, session.machine()) {
-        Ok(_) => page.put(SETS_TOP),
-        Err(refusal) => tell_refused(refusal, scene.line, page),
+        let depth = selected_depth(holding, session);
+        set_and_show(target, value, depth, scene, session, page);
     }
 }
 

@@ -1,12 +1,12 @@
 -- A history limit that changes, and a value that finds no memory.
 use Rattle.std.proofs.Common.{◌≡◌, ◌≢◌, inl, inr, ◌<◌, ◌≤◌, refl, sym, ap, ap₂, ℕ, Bool, true, false, ◌||◌, arith}
-use Rattle.std.specs.Prelude.{◌==◌, if◌then◌else◌, nat_lt, ℤ}
+use Rattle.std.specs.Prelude.{◌==◌, if◌then◌else◌, nat_lt}
 use Rattle.std.proofs.lemmas.Bool.Decides.{nat_tests}
-use Rattle.gang_model.specs.Debugger.Debugger.{Debugger, DoSet, DoSetHistory, KeepsHistory, Memory, OutOfRange, Setting, Target, limited, refused, reply}
+use Rattle.gang_model.specs.Debugger.Debugger.{Command, Debugger, DoSetHistory, KeepsHistory, Memory, OutOfRange, Setting, limited, refused, reply}
 use Rattle.debug_answers.specs.declared.answer.Answer.TheVariants as answer
 use Rattle.debug_answers.specs.declared.answer.Refusal.TheVariants as refusal
 use Rattle.debug_session.specs.Moves.{MayBeDone}
-use Rattle.debug_session.specs.Sessions.{bare}
+use Rattle.debug_session.specs.Sessions.{Sets, bare}
 
 -- whether a limit is none that a history can have
 abbrev pub is_bad : ℕ → Bool
@@ -51,7 +51,7 @@ module _ {M : Type 0} (may_want : Type 0) (stands : M → Setting → Debugger �
       (refused Memory d, inl (inr ((few, larger), refl)), record { follows = record { there = st; stops = refl; next = refl }; means = refl })
 
 -- C12 for a value that is set, and nothing changed
-pub finds_no_room : {M : Type 0} (may_want : Type 0) (stands : M → Setting → Debugger → Type 0) (s : Setting) (d : Debugger) (machine : M) (target : Target) (z : ℤ)
-    → may_want → stands machine s (bare d) → MayBeDone may_want stands s d (DoSet target z) (answer.Refused refusal.Memory) machine
-finds_no_room may_want stands s d machine target z may st =
-    (refused Memory d, inr (may, (record {}, refl)), record { follows = record { there = st; stops = refl; next = refl }; means = refl })
+pub finds_no_room : {M : Type 0} (may_want : Type 0) (stands : M → Setting → Debugger → Type 0) (s : Setting) (d : Debugger) (machine : M) (command : Command) → Sets command
+    → may_want → stands machine s (bare d) → MayBeDone may_want stands s d command (answer.Refused refusal.Memory) machine
+finds_no_room may_want stands s d machine command sets may st =
+    (refused Memory d, inr (may, (sets, refl)), record { follows = record { there = st; stops = refl; next = refl }; means = refl })

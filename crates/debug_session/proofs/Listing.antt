@@ -1,10 +1,13 @@
 -- Breakpoints and watches that are added and deleted.
-use Rattle.std.proofs.Common.{◌≡◌, refl, sym, subst, ap, ◌∙◌, ℕ, suc, Bool, true, false, ◌||◌, List, [], ◌∷◌, ◌++◌, length, Option, Some, None}
-use Rattle.std.specs.Prelude.{◌==◌, cond, filter, find, if◌then◌else◌, is_some, nat_le, nat_lt, not}
+use Rattle.std.proofs.Common.{◌≡◌, refl, sym, subst, ap, ap₂, ◌∙◌, ℕ, suc, Bool, true, false, ◌||◌, List, [], ◌∷◌, ◌++◌, length, Option, Some, None}
+use Rattle.std.specs.Prelude.{◌==◌, cond, filter, find, if◌then◌else◌, is_some, nat_le, nat_lt, not, ℤ}
 use Rattle.std.specs.List.{list_any}
+use Rattle.gang_types.specs.Values.{wrapped}
 use Rattle.gang_model.specs.Types.Tree.{Variable}
+use Rattle.gang_model.specs.Running.State.{State}
 use Rattle.gang_model.specs.Debugger.Debugger as model
-use Rattle.gang_model.specs.Debugger.Debugger.{Debugger, Reply, Setting, TableFull, add_stop, bad_part, now, refused, reply, shown_words, unless_refused, with_target}
+use Rattle.gang_model.specs.Debugger.Debugger.{Constant, Debugger, NoSuchName, OutOfRange, Reply, Setting, Shows, Silent, TableFull, add_stop, bad_part, do_set, do_set_in, found, found_at, is_value, moved, now, poked_by, refused, reply, shown_words, unless_refused, with_target, with_target_in}
+use Rattle.gang_model.specs.Debugger.Events.{InFrame, Poke}
 use Rattle.debug_answers.specs.declared.answer.Answer.{Answer}
 use Rattle.debug_answers.specs.declared.answer.Answer.TheVariants as answer
 use Rattle.debug_answers.specs.declared.answer.Refusal.TheVariants as refusal
@@ -12,7 +15,9 @@ use Rattle.debug_answers.specs.declared.stops.NumberedStop.{NumberedStop}
 use Rattle.debug_answers.specs.declared.stops.Stop.{Stop}
 use Rattle.debug_answers.specs.Meanings.{AreStops, IsStop, Means}
 use Rattle.debug_traits.specs.declared.machine.Shown.{Shown}
+use Rattle.debug_traits.specs.Frames.{IsShownAt, state_at}
 use Rattle.debug_traits.specs.Machines.{IsShown}
+use Rattle.debug_session.specs.Moves.{first_of, set_refusal}
 use Rattle.debug_session.specs.Sessions.{bare}
 use Rattle.debug_session.specs.Stops.{Table}
 use Rattle.debug_session.specs.Tables.{Listed, given_number, is_full, with_stop}
@@ -84,16 +89,95 @@ listed_so s d table given r q same h = subst (λ r. Listed s d r given table) (s
 
 -- ---- targets
 
-module _ (s : Setting) (d : Debugger) (whole : Bool) (target : model.Target) (v : Variable) (shown : Shown) (is : IsShown s (bare d) v shown) where
-  part_same : bad_part whole target.at v.is_array v.rate (length (shown_words (now s d) v)) ≡ bad_part whole target.at shown.is_array shown.rate shown.count
-  part_same =
-      ap (λ b. bad_part whole target.at b v.rate (length (shown_words (now s d) v))) is.is_array
-      ∙ ap (λ r. bad_part whole target.at shown.is_array r (length (shown_words (now s d) v))) is.rate
-      ∙ ap (bad_part whole target.at shown.is_array shown.rate) is.count
+-- what is told of a variable says which of its parts can be had
+part_told : (whole : Bool) (at : Option ℕ) (v : Variable) (shown : Shown) (count : ℕ) → v.is_array ≡ shown.is_array → v.rate ≡ shown.rate → count ≡ shown.count
+    → bad_part whole at v.is_array v.rate count ≡ bad_part whole at shown.is_array shown.rate shown.count
+part_told whole at v shown count is_array rate counts =
+    ap (λ b. bad_part whole at b v.rate count) is_array ∙ ap (λ r. bad_part whole at shown.is_array r count) rate ∙ ap (bad_part whole at shown.is_array shown.rate) counts
 
-  -- a command on a target that can be had
-  pub with_part : (o : Option Variable) (go : Variable → Reply) → o ≡ Some v → bad_part whole target.at shown.is_array shown.rate shown.count ≡ None → with_target s d whole target o go ≡ go v
-  with_part o go found fine = ap (λ o. with_target s d whole target o go) found ∙ ap (λ r. unless_refused r d (λ d. go v)) (part_same ∙ fine)
+module _ (d : Debugger) (state : State) (whole : Bool) (target : model.Target) (v : Variable) (shown : Shown) (o : Option Variable) (go : Variable → Reply) (found : o ≡ Some v) where
+  had : bad_part whole target.at v.is_array v.rate (length (shown_words state v)) ≡ bad_part whole target.at shown.is_array shown.rate shown.count
+      → with_target_in state d whole target o go ≡ unless_refused (bad_part whole target.at shown.is_array shown.rate shown.count) d (λ d. go v)
+  had told = ap (λ o. with_target_in state d whole target o go) found ∙ ap (λ r. unless_refused r d (λ d. go v)) told
+
+-- a command on a target that can be had
+pub with_part : (s : Setting) (d : Debugger) (whole : Bool) (target : model.Target) (v : Variable) (shown : Shown) → IsShown s (bare d) v shown → (o : Option Variable) (go : Variable → Reply)
+    → o ≡ Some v → bad_part whole target.at shown.is_array shown.rate shown.count ≡ None → with_target s d whole target o go ≡ go v
+with_part s d whole target v shown is o go found fine =
+    had d (now s d) whole target v shown o go found (part_told whole target.at v shown (length (shown_words (now s d) v)) is.is_array is.rate is.count)
+    ∙ ap (λ r. unless_refused r d (λ d. go v)) fine
+
+-- ---- values that are set
+
+module _ (d : Debugger) (done : Reply) where
+  -- the refusals one after another
+  one_by_one : (part : Option model.Refusal) (has constant : Bool) →
+      unless_refused part d (λ e. if not has then refused OutOfRange d else (if constant then refused Constant d else done))
+      ≡ unless_refused (first_of part (if not has then Some OutOfRange else (if constant then Some Constant else None))) d (λ e. done)
+  one_by_one (Some r) has constant = refl
+  one_by_one None false constant = refl
+  one_by_one None true true = refl
+  one_by_one None true false = refl
+
+module _ (d : Debugger) (state : State) (target : model.Target) (z : ℤ) (v : Variable) (shown : Shown) (o : Option Variable) (found : o ≡ Some v) (done : Variable → Reply)
+    (type : v.type ≡ shown.value_type) (constant : v.is_constant ≡ shown.is_constant) where
+  -- what is told of a variable says why it is not set
+  reasons : bad_part false target.at v.is_array v.rate (length (shown_words state v)) ≡ bad_part false target.at shown.is_array shown.rate shown.count
+      → with_target_in state d false target o (λ v. if not (is_value v.type z) then refused OutOfRange d else (if v.is_constant then refused Constant d else done v))
+      ≡ unless_refused (set_refusal target.at shown z) d (λ e. done v)
+  reasons told =
+      had d state false target v shown o (λ v. if not (is_value v.type z) then refused OutOfRange d else (if v.is_constant then refused Constant d else done v)) found told
+      ∙ ap₂ (λ type constant. unless_refused (bad_part false target.at shown.is_array shown.rate shown.count) d (λ e. if not (is_value type z) then refused OutOfRange d else (if constant then refused Constant d else done v))) type constant
+      ∙ one_by_one d (done v) (bad_part false target.at shown.is_array shown.rate shown.count) (is_value shown.value_type z) shown.is_constant
+
+-- where a value is set, there is such a part
+pub part_of : (at : Option ℕ) (shown : Shown) (z : ℤ) → set_refusal at shown z ≡ None → bad_part false at shown.is_array shown.rate shown.count ≡ None
+part_of at shown z none = first_none (bad_part false at shown.is_array shown.rate shown.count) _ none
+  where
+    first_none : (first second : Option model.Refusal) → first_of first second ≡ None → first ≡ None
+    first_none None second e = refl
+    first_none (Some r) second e = absurd (cc e)
+
+-- a value is set in the top frame, or not
+pub set_or_not : (s : Setting) (d : Debugger) (target : model.Target) (z : ℤ) (v : Variable) (shown : Shown) → IsShown s (bare d) v shown → found s.program (now s d) target.name ≡ Some v
+    → do_set s target z d ≡ unless_refused (set_refusal target.at shown z) d (λ e. reply (Shows target v) (moved (Poke (poked_by v target.at) (wrapped v.type z)) d))
+set_or_not s d target z v shown is named =
+    reasons d (now s d) target z v shown (found s.program (now s d) target.name) named (λ v. reply (Shows target v) (moved (Poke (poked_by v target.at) (wrapped v.type z)) d)) is.type is.is_constant
+    (part_told false target.at v shown (length (shown_words (now s d) v)) is.is_array is.rate is.count)
+
+-- or in the frame at a depth
+pub set_in_or_not : (s : Setting) (d : Debugger) (deep : ℕ) (target : model.Target) (z : ℤ) (v : Variable) (shown : Shown) → IsShownAt s (bare d) deep v shown
+    → found_at s.program deep (now s d) target.name ≡ Some v
+    → do_set_in s deep target z d ≡ unless_refused (set_refusal target.at shown z) d (λ e. reply Silent (moved (Poke (InFrame deep (poked_by v target.at)) (wrapped v.type z)) d))
+set_in_or_not s d deep target z v shown is named =
+    reasons d (state_at deep (now s d)) target z v shown (found_at s.program deep (now s d) target.name) named
+    (λ v. reply Silent (moved (Poke (InFrame deep (poked_by v target.at)) (wrapped v.type z)) d)) is.type is.is_constant
+    (part_told false target.at v shown (length (shown_words (state_at deep (now s d)) v)) is.is_array is.rate is.count)
+
+module _ (s : Setting) (d : Debugger) (target : model.Target) (z : ℤ) where
+  -- nothing is set where there is no such variable
+  pub set_nowhere : found s.program (now s d) target.name ≡ None → do_set s target z d ≡ refused NoSuchName d
+  set_nowhere none = ap (λ o. with_target s d false target o (λ v.
+      if not (is_value v.type z) then refused OutOfRange d
+      else (if v.is_constant then refused Constant d
+      else reply (Shows target v) (moved (Poke (poked_by v target.at) (wrapped v.type z)) d)))) none
+
+  pub set_in_nowhere : (deep : ℕ) → found_at s.program deep (now s d) target.name ≡ None → do_set_in s deep target z d ≡ refused NoSuchName d
+  set_in_nowhere deep none = ap (λ o. with_target_in (state_at deep (now s d)) d false target o (λ v.
+      if not (is_value v.type z) then refused OutOfRange d
+      else (if v.is_constant then refused Constant d
+      else reply Silent (moved (Poke (InFrame deep (poked_by v target.at)) (wrapped v.type z)) d)))) none
+
+  module _ (v : Variable) (shown : Shown) (r : model.Refusal) (why : set_refusal target.at shown z ≡ Some r) where
+    -- or where it cannot be
+    pub not_set : IsShown s (bare d) v shown → found s.program (now s d) target.name ≡ Some v → do_set s target z d ≡ refused r d
+    not_set is named =
+        set_or_not s d target z v shown is named ∙ ap (λ o. unless_refused o d (λ e. reply (Shows target v) (moved (Poke (poked_by v target.at) (wrapped v.type z)) d))) why
+
+    pub not_set_in : (deep : ℕ) → IsShownAt s (bare d) deep v shown → found_at s.program deep (now s d) target.name ≡ Some v → do_set_in s deep target z d ≡ refused r d
+    not_set_in deep is named =
+        set_in_or_not s d deep target z v shown is named
+        ∙ ap (λ o. unless_refused o d (λ e. reply Silent (moved (Poke (InFrame deep (poked_by v target.at)) (wrapped v.type z)) d))) why
 
 -- ---- deleting
 

@@ -3,9 +3,9 @@ use Rattle.std.proofs.Common.{◌≡◌, inl, ◌<◌, refl, sym, subst, ap, ◌
 use Rattle.std.specs.Prelude.{◌==◌, if◌then◌else◌}
 use Rattle.std.proofs.lemmas.Bool.Decides.{nat_tests}
 use Rattle.gang_model.specs.Running.State.{State}
-use Rattle.gang_model.specs.Debugger.Debugger.{Command, Debugger, Goal, NoHistory, Reply, Setting, Refusal, backward, backward_refusal, do_backward, do_command, do_forward, forward, forward_refusal, kept_steps, now, outermost_refusal, refused, unless_refused}
+use Rattle.gang_model.specs.Debugger.Debugger.{Command, Debugger, Goal, NoHistory, Reply, Setting, Refusal, Refused, backward, backward_refusal, do_backward, do_command, do_forward, forward, forward_refusal, kept_steps, now, outermost_refusal, refused, unless_refused}
 use Rattle.debug_answers.specs.declared.answer.Answer.{Answer}
-use Rattle.debug_answers.specs.Meanings.{AreStops}
+use Rattle.debug_answers.specs.Meanings.{AreStops, Means}
 use Rattle.debug_session.specs.declared.session.Session.{Session}
 use Rattle.debug_session.specs.Moves.{Done, MayBeDone}
 use Rattle.debug_session.specs.Sessions.{Replied, RepliesTo, StandsFor, bare}
@@ -21,6 +21,12 @@ done_replies may_want stands s command d given new replied = record { reply = do
 pub done_surely : {M : Type 0} (may_want : Type 0) (stands : M → Setting → Debugger → Type 0) (s : Setting) (d : Debugger) (command : Command) (given : Answer) (machine : M)
     → Done stands s d (do_command s command d) given machine → MayBeDone may_want stands s d command given machine
 done_surely may_want stands s d command given machine done = (do_command s command d, inl (inl refl), done)
+
+-- a command that was refused, and nothing changed
+pub done_refused : {M : Type 0} (may_want : Type 0) (stands : M → Setting → Debugger → Type 0) (s : Setting) (d : Debugger) (command : Command) (given : Answer) (machine : M)
+    → stands machine s (bare d) → (r : Refusal) → Means s d given (Refused r) → do_command s command d ≡ refused r d → MayBeDone may_want stands s d command given machine
+done_refused may_want stands s d command given machine st r means is =
+    (refused r d, inl (inl (sym is)), record { follows = record { there = st; stops = refl; next = refl }; means = means })
 
 -- a debugger with no breakpoint or watch is all that a machine knows of it
 pub bare_already : (d : Debugger) → d.stops ≡ [] → d.next ≡ 1 → d ≡ bare d

@@ -1,10 +1,11 @@
 -- What moves come to, where they lead, and what watches show before them.
-use Rattle.std.specs.Prelude.{◌≡◌, ℕ, false, List, [], ◌∷◌, ◌++◌, map, Option, Some, None, is_none}
+use Rattle.std.specs.Prelude.{◌≡◌, ℕ, ℤ, false, not, if◌then◌else◌, List, [], ◌∷◌, ◌++◌, map, Option, Some, None, is_none}
 use Rattle.arrayvec.specs.ArrayVec.{ArrayVec}
 use Rattle.gang_model.specs.Running.State.{State}
 use Rattle.gang_model.specs.Debugger.Debugger as model
-use Rattle.gang_model.specs.Debugger.Debugger.{Debugger, Reply, Setting, depth, has_ended, now, target_words}
+use Rattle.gang_model.specs.Debugger.Debugger.{Constant, Debugger, OutOfRange, Reply, Setting, bad_part, depth, has_ended, is_value, now, target_words}
 use Rattle.gang_model.specs.Debugger.Positions.{line_now}
+use Rattle.debug_traits.specs.declared.machine.Shown.{Shown}
 use Rattle.debug_answers.specs.declared.answer.Answer.{Answer}
 use Rattle.debug_answers.specs.declared.answer.Refusal.{Refusal}
 use Rattle.debug_answers.specs.Meanings.{Means, refusal_view}
@@ -69,6 +70,16 @@ watch_words state (entry ∷ stops) = stop_words state entry.1 ++ watch_words st
 -- words that were noted
 abbrev pub noted : List (ArrayVec ℕ) → List (List ℕ)
 noted before = map (λ words. words.items) before
+
+-- the first reason, if there is one, else the second
+abbrev pub first_of : (first second : Option model.Refusal) → Option model.Refusal
+first_of None second = second
+first_of (Some r) second = Some r
+
+-- why a value is not set, if it is not: there is no such part, the type has no such value, or the variable is constant
+abbrev pub set_refusal : (at : Option ℕ) → Shown → (number : ℤ) → Option model.Refusal
+set_refusal at shown number = first_of (bad_part false at shown.is_array shown.rate shown.count)
+    (if not (is_value shown.value_type number) then Some OutOfRange else (if shown.is_constant then Some Constant else None))
 
 -- why a command is refused, if it is
 abbrev pub refusal_option : Option Refusal → Option model.Refusal

@@ -1,7 +1,7 @@
 -- What a session stands for, and what its commands come to.
 use Rattle.std.specs.Prelude.{◌≡◌, ◌⊎◌, [], Bool, true, false}
 use Rattle.undo_log.specs.History.{History}
-use Rattle.gang_model.specs.Debugger.Debugger.{Command, Debugger, DoSet, IsReply, Memory, Reply, Setting, refused}
+use Rattle.gang_model.specs.Debugger.Debugger.{Command, Debugger, DoSet, DoSetIn, IsReply, Memory, Reply, Setting, refused}
 use Rattle.debug_answers.specs.declared.answer.Answer.{Answer}
 use Rattle.debug_answers.specs.declared.answer.Answer.TheVariants as answer
 use Rattle.debug_answers.specs.Meanings.{AreStops, Means}
@@ -27,6 +27,7 @@ pub record Replied {M : Type 0} (stands : M → Setting → Debugger → Type 0)
 -- a command sets a value
 abbrev pub Sets : Command → Type 0
 Sets (DoSet target z) = Unit {0}
+Sets (DoSetIn deep target z) = Unit {0}
 Sets command = ⊥
 
 -- a command that sets a value is refused with C12, and nothing changes

@@ -1,14 +1,15 @@
 //! Values that are set, events that are taken back, and how many can be.
-ghost use Rattle.std.specs.Prelude.{◌≡◌, suc, true};
+ghost use Rattle.std.specs.Prelude.{◌≡◌, suc, true, None};
 ghost use Rattle.gang_model.specs.Debugger.Debugger.{Debugger, DoSet, DoSetHistory, Setting, do_undo, is_value};
 ghost use Rattle.debug_commands.specs.Views.{target_view};
-ghost use Rattle.debug_session.specs.Moves.{Done, MayBeDone};
+ghost use Rattle.debug_answers.specs.Meanings.{IsInside};
+ghost use Rattle.debug_session.specs.Moves.{Done, MayBeDone, refusal_option, set_refusal};
 ghost use Rattle.debug_session.specs.Sessions.{bare, is_refused};
 
 use crate::refusing::part_refusal;
 use debug_answers::{Answer, Refusal};
 use debug_commands::Target;
-use debug_traits::RecordedMachine;
+use debug_traits::{RecordedMachine, Shown};
 use gang_types::{IntType, value, wrap};
 use std::alloc::AllocError;
 use undo_log::Undone;
@@ -27,19 +28,30 @@ pub(crate) fn set<'a, M: RecordedMachine>(
     let Some(shown) = machine.find(target.name) else {
         return Answer::Refused(Refusal::NoSuchName);
     };
-    if let Some(refusal) = part_refusal(shown, target.at, false) {
+    if let Some(refusal) = set_refusal(shown, target.at, number) {
         return Answer::Refused(refusal);
-    }
-    if !is_value(shown.value_type, number) {
-        return Answer::Refused(Refusal::OutOfRange);
-    }
-    if shown.is_constant {
-        return Answer::Refused(Refusal::Constant);
     }
     match machine.poke(shown, target.at, wrap(shown.value_type, number)) {
         Ok(()) => Answer::Shows { target, shown },
         Err(AllocError) => Answer::Refused(Refusal::Memory),
     }
+}
+
+/// Why a value is not set, if it is not: there is no such part, the type has no such value, or the variable is constant.
+pub(crate) fn set_refusal(shown: Shown, at: Option<u32>, number: i128) -> Option<Refusal>
+    ensures refused { refusal_option result ≡ set_refusal at shown number }
+    ensures inside { result ≡ None → IsInside at shown.count }
+{
+    if let Some(refusal) = part_refusal(shown, at, false) {
+        return Some(refusal);
+    }
+    if !is_value(shown.value_type, number) {
+        return Some(Refusal::OutOfRange);
+    }
+    if shown.is_constant {
+        return Some(Refusal::Constant);
+    }
+    None
 }
 
 /// Whether a type has this value.

@@ -2,6 +2,7 @@
 #![tactic(auto)]
 
 mod changing;
+mod framed;
 mod goal;
 mod moving;
 mod places;

@@ -1,12 +1,13 @@
 //! A debugger over a recorded machine.
 ghost use Rattle.std.specs.Prelude.{◌≡◌, ◌+◌, ◌≤◌, [], length, true};
-ghost use Rattle.gang_model.specs.Debugger.Debugger.{Debugger, Setting, do_backward, do_forward};
-ghost use Rattle.debug_commands.specs.Views.{command_view};
+ghost use Rattle.gang_model.specs.Debugger.Debugger.{Debugger, DoSetIn, Setting, do_backward, do_forward};
+ghost use Rattle.debug_commands.specs.Views.{command_view, target_view};
 ghost use Rattle.debug_session.specs.Bounds.{TakesBack, most_moves};
 ghost use Rattle.debug_session.specs.Goals.{goal_view};
 ghost use Rattle.debug_session.specs.Sessions.{IsUnchanged, Replied, RepliesTo, StandsFor, is_refused};
 
 use crate::changing::{set, set_history, undo};
+use crate::framed::set_in;
 use crate::goal::Goal;
 use crate::moving::{move_backward, move_forward};
 use crate::refusing::{backward_refusal, depth, forward_refusal};
@@ -15,8 +16,8 @@ use crate::stopping::{delete, set_breakpoint, set_watch};
 use crate::table::StopTable;
 use crate::watching::WordsBefore;
 use debug_answers::{Answer, NumberedStop};
-use debug_commands::Command;
-use debug_traits::RecordedMachine;
+use debug_commands::{Command, Target};
+use debug_traits::{FramedMachine, RecordedMachine};
 
 /// A debugger over a machine. It does at most so many moves for one forward command.
 #[derive(Drop)]
@@ -129,5 +130,18 @@ impl<M: RecordedMachine> Session<M> {
             Some(refusal) => Answer::Refused(refusal),
             None => move_backward(&mut self.machine, &self.stops, &mut self.before, goal),
         }
+    }
+}
+
+impl<M: FramedMachine> Session<M> {
+    /// Sets a value in the frame at a depth, as `set var` does in the top one: no command line asks for it. It may want for memory where the
+    /// machine may. Nothing is said of it where it is done.
+    pub fn set_in<'a>(&mut self, depth: usize, target: Target<'a>, value: i128) -> Answer<'a>
+        ensures replied { (s : Setting) (d : Debugger) → StandsFor M.stands self.old s d
+            → RepliesTo M.may_want M.stands s (DoSetIn depth (target_view target.entry) value) d result self.new }
+        ensures refused { is_refused result ≡ true → IsUnchanged M.history self.old self.new }
+        ensures moves { M.moves self.new.machine ≡ M.moves self.old.machine }
+    {
+        set_in(&mut self.machine, depth, target, value)
     }
 }

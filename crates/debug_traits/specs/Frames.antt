@@ -1,35 +1,15 @@
 -- What one of the frames shows. The entry's frame is at depth 1, the top one at the depth of the program.
-use Rattle.std.specs.Prelude.{◌≡◌, ℕ, suc, ◌-◌, ◌⊎◌, nat_lt, not, List, [], ◌∷◌, drop, filter, length, Option, Some, None, if◌then◌else◌}
-use Rattle.gang_types.specs.declared.places.Spot.{Spot}
-use Rattle.gang_model.specs.Source.Names.{named}
+use Rattle.std.specs.Prelude.{◌≡◌, ℕ, ◌⊎◌, not, List, [], ◌∷◌, filter, length, Option, Some, None, Result, Ok, Err}
 use Rattle.gang_model.specs.Types.Tree.{Program, Variable}
-use Rattle.gang_model.specs.Running.State.{Frame, State}
-use Rattle.gang_model.specs.Debugger.Positions.{call_at, scope_of, spot_now, standing_of}
-use Rattle.gang_model.specs.Debugger.Debugger.{Debugger, Setting, global_named, now, or_else, shown_words}
+use Rattle.gang_model.specs.Running.State.{State}
+use Rattle.gang_model.specs.Debugger.Events.{InFrame, Poke}
+use Rattle.gang_model.specs.Debugger.Debugger.{Debugger, Setting, moved, now, poked_by, shown_words}
 use Rattle.debug_traits.specs.declared.machine.NamedVariable.{NamedVariable}
 use Rattle.debug_traits.specs.declared.machine.NextLocal.{NextLocal}
 use Rattle.debug_traits.specs.declared.machine.Shown.{Shown}
 use Rattle.debug_traits.specs.Machines.{IsOneOf, file_variables}
-
--- the frames from the one at a depth outwards, none at depth 0; all of them where there is none so deep
-abbrev pub frames_at : (depth : ℕ) → List Frame → List Frame
-frames_at deep frames = drop (length frames - deep) frames
-
--- the state with no frame above the one at a depth
-abbrev pub state_at : (depth : ℕ) → State → State
-state_at deep state = record state { frames = frames_at deep state.frames }
-
--- where the frame at a depth stands: at the call that made the frame above it, and the top one at its next step
-abbrev pub spot_at : Program → (depth : ℕ) → State → Option Spot
-spot_at p deep state = if nat_lt deep (length state.frames) then call_at (suc deep) state.frames else spot_now p state
-
--- what is in scope in the frame at a depth
-abbrev pub scope_at : Program → (depth : ℕ) → State → List Variable
-scope_at p deep state = scope_of (standing_of p (spot_at p deep state))
-
--- the variable of this name in scope in the frame at a depth, else at file scope
-abbrev pub found_at : Program → (depth : ℕ) → State → List ℕ → Option Variable
-found_at p deep state name = or_else (named name (scope_at p deep state)) (global_named p name)
+pub use Rattle.gang_model.specs.Debugger.Frames.{frames_at, scope_at, spot_at, state_at}
+pub use Rattle.gang_model.specs.Debugger.Debugger.{found_at}
 
 -- the local variables in scope in the frame at a depth, without the parameters
 abbrev pub listed_at : Setting → Debugger → (depth : ℕ) → List Variable
@@ -62,3 +42,8 @@ ShowsNamedAt s d deep v given = (given.name.now ≡ v.name) × IsShownAt s d dee
 abbrev pub ShowsNextAt : Setting → Debugger → (depth : ℕ) → (from : ℕ → List Variable) → (place : ℕ) → Option NextLocal → Type 0
 ShowsNextAt s d deep from place None = from place ≡ []
 ShowsNextAt s d deep from place (Some local) = (v : Variable) × (from place ≡ v ∷ from local.next) × ShowsNamedAt s d deep v local.variable
+
+-- a value was set in the frame at a depth and recorded; or there was no memory for it, and nothing changed
+abbrev pub PokesAtOrNot : {M X E : Type 0} → (M → Setting → Debugger → Type 0) → Setting → Debugger → (depth : ℕ) → Variable → Option ℕ → (word : ℕ) → Result X E → M → Type 0
+PokesAtOrNot stands s d deep v at word (Ok done) new = stands new s (moved (Poke (InFrame deep (poked_by v at)) word) d)
+PokesAtOrNot stands s d deep v at word (Err memory) new = stands new s d

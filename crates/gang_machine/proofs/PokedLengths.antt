@@ -1,5 +1,5 @@
 -- A value that is set leaves as many words of each variable as there were.
-use Rattle.std.proofs.Common.{◌≡◌, refl, sym, ap, subst, ◌∙◌, ℕ, ◌+◌, ◌-◌, Bool, true, false, List, [], ◌∷◌, length, min}
+use Rattle.std.proofs.Common.{◌≡◌, refl, sym, ap, subst, ◌∙◌, ℕ, zero, suc, ◌+◌, ◌-◌, Bool, true, false, List, [], ◌∷◌, ◌++◌, length, min}
 use Rattle.std.specs.Prelude.{drop, map, slice_set, take, if◌then◌else◌}
 use Rattle.std.proofs.lemmas.List.{length-drop, length-map, length-set, length-take}
 use Rattle.gang_types.specs.declared.places.VarId.{VarId}
@@ -7,7 +7,8 @@ use Rattle.gang_types.specs.declared.places.VarId.TheVariants.{File, Local}
 use Rattle.gang_model.specs.Types.Tree.{Variable}
 use Rattle.gang_model.specs.Running.State.{Frame, State, Store, View, local_view, local_words, same_id, view_of, with_first, with_var, with_words, with_words_in, words_in, words_of}
 use Rattle.gang_model.specs.Debugger.Debugger.{elements, shown_words}
-use Rattle.gang_model.specs.Debugger.Events.{ElementAt, LaneOf, Poked, WholeOf, poked}
+use Rattle.gang_model.specs.Debugger.Events.{ElementAt, InFrame, LaneOf, Poked, WholeOf, poked}
+use Rattle.gang_model.specs.Debugger.Frames.{state_at}
 use Rattle.machine_states.proofs.StoreWords.{itself, same_variable, words_kept, words_set}
 
 -- ---- stores and frames
@@ -32,6 +33,18 @@ locals_long (frame ∷ frames) v words long u = set_long frame.vars v words long
 views_same : (frames : List Frame) (v : VarId) (words : List ℕ) (u : VarId) → local_view (with_first (with_var v words) frames) u ≡ local_view frames u
 views_same [] v words u = refl
 views_same (frame ∷ frames) v words u = refl
+
+-- frames above others hide them
+locals_under : (n : ℕ) (frames below : List Frame) → ((u : VarId) → length (local_words below u) ≡ length (local_words (drop n frames) u)) → (u : VarId)
+    → length (local_words (take n frames ++ below) u) ≡ length (local_words frames u)
+locals_under zero frames below same u = same u
+locals_under (suc n) [] below same u = same u
+locals_under (suc n) (frame ∷ frames) below same u = refl
+
+views_under : (n : ℕ) (frames below : List Frame) → ((u : VarId) → local_view below u ≡ local_view (drop n frames) u) → (u : VarId) → local_view (take n frames ++ below) u ≡ local_view frames u
+views_under zero frames below same u = same u
+views_under (suc n) [] below same u = same u
+views_under (suc n) (frame ∷ frames) below same u = refl
 
 -- ---- states
 
@@ -59,6 +72,15 @@ poked_lengths (ElementAt v k) word state =
       memory = set_long state.memory view.array (slice_set words (view.first + k) word) (length-set words (view.first + k) word);
       locals = λ u. refl;
       views = λ u. refl;
+    }
+poked_lengths (InFrame deep what) word state =
+    let n = length state.frames - deep in
+    let below : State = poked what word (state_at deep state) in
+    let same : HaveSameLengths (state_at deep state) below = poked_lengths what word (state_at deep state) in
+    record {
+      memory = same.memory;
+      locals = locals_under n state.frames below.frames same.locals;
+      views = views_under n state.frames below.frames same.views;
     }
 
 -- ---- what is shown

@@ -1,4 +1,4 @@
-//! What a machine shows of each of its frames.
+//! What a machine shows of each of its frames, and what it sets in them.
 ghost use Rattle.std.specs.Prelude.{◌≡◌, ◌⊎◌, ℕ, ◌<◌, ◌≤◌, false, filter, length, slice_index, None, IfSome};
 ghost use Rattle.gang_model.specs.Types.Tree.{Variable};
 ghost use Rattle.gang_model.specs.Debugger.Debugger.{Debugger, Setting, now, shown_words};
@@ -12,7 +12,8 @@ ghost use Rattle.gang_machine.specs.Standings.{Stands};
 use crate::machine::Machine;
 use debug_traits::{FramedMachine, NamedVariable, NextLocal, Shown};
 use machine_names::{ListedKind, file_named, local_named, next_listed};
-use machine_shown::{count, frame_count, step_at, word};
+use machine_shown::{count, frame_count, poke_at, step_at, word};
+use std::alloc::AllocError;
 use typed_tree::Function;
 use undo_log::Timeline;
 
@@ -141,5 +142,16 @@ impl<const W: usize, T: Timeline + Drop> FramedMachine for Machine<W, T> {
 
     fn word_at(&self, depth: usize, shown: Shown, index: usize) -> u64 {
         self.word_in(depth, shown, index)
+    }
+
+    fn poke_at(
+        &mut self,
+        depth: usize,
+        shown: Shown,
+        at: Option<u32>,
+        word: u64,
+    ) -> Result<(), AllocError> {
+        poke_at::<W, T>(&self.compiled, &mut self.words, depth, shown.id, at, word);
+        Ok(())
     }
 }

@@ -10,8 +10,9 @@ use Rattle.gang_types.specs.Values.{wrapped}
 use Rattle.gang_model.specs.Types.Tree.{Variable}
 use Rattle.gang_model.specs.Running.State.{State}
 use Rattle.gang_model.specs.Running.Step.{Stepped, Goes, Fails, Over, step}
-use Rattle.gang_model.specs.Debugger.Events.{Event, Step, Poke}
-use Rattle.gang_model.specs.Debugger.Debugger.{Target, Stop, Line, Watch, Debugger, Command, DoStep, DoNext, DoReverseStep, DoReverseNext, DoFinish, DoContinue, DoReverseFinish, DoReverseContinue, DoUndo, DoPrint, DoSet, DoBreak, DoWatch, DoDelete, DoInfoBreakpoints, DoInfoLocals, DoBacktrace, DoNothing, DoQuit, DoSetHistory, Refusal, NoSuchName, NoHistory, Ended, Outermost, NoLine, OutOfRange, Constant, NoSuchNumber, TableFull, Memory, Answer, Here, HistoryEnd, BreaksAt, Watches, Refused, Reply, reply, Setting, now, depth, has_ended, global_named, found, Goal, Moves, Groups, Above, NoGoal, towards, moved, taken_back, to_last_step, stepped_back, kept_steps, AfterMove, Ends, GoesOn, ends_or_goes_on, after_move, or_next, attempted, forward, backward, unless_refused, outermost_refusal, forward_refusal, backward_refusal, shown_words, do_forward, do_backward, undone, bad_part, with_target, is_value, poked_by, least_from, step_lines, add_stop, break_on, do_delete, limited, do_command, IsReply}
+use Rattle.gang_model.specs.Debugger.Events.{Event, Step, Poke, InFrame}
+use Rattle.gang_model.specs.Debugger.Frames.{state_at}
+use Rattle.gang_model.specs.Debugger.Debugger.{Target, Stop, Line, Watch, Debugger, Command, DoStep, DoNext, DoReverseStep, DoReverseNext, DoFinish, DoContinue, DoReverseFinish, DoReverseContinue, DoUndo, DoPrint, DoSet, DoBreak, DoWatch, DoDelete, DoInfoBreakpoints, DoInfoLocals, DoBacktrace, DoNothing, DoQuit, DoSetHistory, DoSetIn, Refusal, NoSuchName, NoHistory, Ended, Outermost, NoLine, OutOfRange, Constant, NoSuchNumber, TableFull, Memory, Answer, Here, HistoryEnd, BreaksAt, Watches, Refused, Reply, reply, Setting, now, depth, has_ended, global_named, found, Goal, Moves, Groups, Above, NoGoal, towards, moved, taken_back, to_last_step, stepped_back, kept_steps, AfterMove, Ends, GoesOn, ends_or_goes_on, after_move, or_next, attempted, forward, backward, unless_refused, outermost_refusal, forward_refusal, backward_refusal, shown_words, do_forward, do_backward, undone, bad_part, with_target, with_target_in, found_at, is_value, poked_by, least_from, step_lines, add_stop, break_on, do_delete, limited, do_command, IsReply}
 
 -- whether an answer is a refusal
 abbrev pub is_refusal : Answer → Bool
@@ -145,10 +146,13 @@ module _ (Holds : Debugger → Type 0) (kept : IsKept Holds) where
   plain_undone (Step ∷ events) = refl
   plain_undone (Poke what word ∷ events) = refl
 
+  outcome_target_in : (state : State) (d : Debugger) (whole_array : Bool) (target : Target) (v : Option Variable) (go : Variable → Reply) → ((v : Variable) → Outcome Holds d (go v)) → Outcome Holds d (with_target_in state d whole_array target v go)
+  outcome_target_in state d whole_array target None go h = was_refused NoSuchName refl refl refl
+  outcome_target_in state d whole_array target (Some v) go h =
+      outcome_unless _ d (λ d. go v) (plain_part whole_array target.at v.is_array v.rate (length (shown_words state v))) (h v)
+
   outcome_target : (s : Setting) (d : Debugger) (whole_array : Bool) (target : Target) (v : Option Variable) (go : Variable → Reply) → ((v : Variable) → Outcome Holds d (go v)) → Outcome Holds d (with_target s d whole_array target v go)
-  outcome_target s d whole_array target None go h = was_refused NoSuchName refl refl refl
-  outcome_target s d whole_array target (Some v) go h =
-      outcome_unless _ d (λ d. go v) (plain_part whole_array target.at v.is_array v.rate (length (shown_words (now s d) v))) (h v)
+  outcome_target s d whole_array target v go h = outcome_target_in (now s d) d whole_array target v go h
 
   outcome_stop : (stop : Stop) (answer : ℕ → Answer) (d : Debugger) → ((n : ℕ) → is_refusal (answer n) ≡ false) → Holds d → Outcome Holds d (add_stop stop answer d)
   outcome_stop stop answer d plain h = outcome_if (nat_le 64 (length d.stops) || nat_lt 10000000 d.next) d _ _ (was_refused TableFull refl refl refl) (was_done (plain d.next) (kept.by_stops d _ _ h))
@@ -186,6 +190,9 @@ module _ (Holds : Debugger → Type 0) (kept : IsKept Holds) where
   outcome s DoNothing d h = was_done refl h
   outcome s DoQuit d h = was_done refl h
   outcome s (DoSetHistory n) d h = outcome_if ((n == 0) || nat_lt 65536 n) d _ _ (was_refused OutOfRange refl refl refl) (was_done refl (kept.by_history d n h))
+  outcome s (DoSetIn deep target z) d h = outcome_target_in (state_at deep (now s d)) d false target (found_at s.program deep (now s d) target.name) _ (λ v.
+      outcome_if (not (is_value v.type z)) d _ _ (was_refused OutOfRange refl refl refl)
+      (outcome_if v.is_constant d _ _ (was_refused Constant refl refl refl) (was_done refl (kept.by_move (Poke (InFrame deep (poked_by v target.at)) (wrapped v.type z)) d h))))
 
 -- ---- a refused command changes nothing
 

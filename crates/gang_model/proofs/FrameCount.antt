@@ -1,6 +1,6 @@
 -- At most 64 frames exist, from the start and after each event.
-use Rattle.std.proofs.Common.{◌≡◌, refl, subst, sym, ℕ, suc, ◌≤◌, Bool, true, false, List, [], ◌∷◌, length, Option, Some, None, arith}
-use Rattle.std.specs.Prelude.{Result, Ok, Err, IfOk, ◌==◌, slice_get, if◌then◌else◌}
+use Rattle.std.proofs.Common.{◌≡◌, refl, ap, subst, sym, ℕ, zero, suc, ◌-◌, ◌≤◌, Bool, true, false, List, [], ◌∷◌, ◌++◌, length, Option, Some, None, arith}
+use Rattle.std.specs.Prelude.{Result, Ok, Err, IfOk, ◌==◌, drop, take, slice_get, if◌then◌else◌}
 use Rattle.gang_types.specs.declared.types.IntType.{IntType}
 use Rattle.gang_types.specs.declared.types.IntType.TheVariants as t
 use Rattle.gang_types.specs.declared.places.VarId.{VarId}
@@ -9,12 +9,13 @@ use Rattle.gang_types.specs.declared.faults.FaultName.TheVariants.{CallDepth}
 use Rattle.gang_types.specs.Lanes.{Lanes, lowest}
 use Rattle.gang_model.specs.Running.Lanes.{Fault, ◌>>=◌, each, try_each, members}
 use Rattle.gang_model.specs.Types.Tree.{ResultFor, Nothing, Declares, Assigns, Returns, Stmt, Declare, Assign, Change, If, Break, Continue, Return, Switch, ForEach, Call, Check, PackedStore, PackedLoad, Function, Program}
-use Rattle.gang_model.specs.Running.State.{Store, Doing, Run, LoopTest, LoopUpdate, Round, RoundEnd, SwitchEnd, Task, Frame, State, with_words_in, with_first, on_top}
+use Rattle.gang_model.specs.Running.State.{Store, Doing, Run, LoopTest, LoopUpdate, Round, RoundEnd, SwitchEnd, Task, Frame, State, with_var, with_words_in, with_first, on_top}
 use Rattle.gang_model.specs.Running.Rounds.{rounds}
 use Rattle.gang_model.specs.Running.Value.{value}
 use Rattle.gang_model.specs.Running.Library.{rank}
 use Rattle.gang_model.specs.Running.Step.{deliver, left, leave, Passed, new_frame, entered, with_store, run, perform, Stepped, Goes, Fails, Over, stepped, step_task, step_frame, step, Written, ToVar, ToElements, write, packed, initial, reached, old_values, passed, part}
-use Rattle.gang_model.specs.Debugger.Events.{Event, Step, Poke, Poked, WholeOf, LaneOf, ElementAt, Given, started, start, with_rows, initial_memory, poked, gone, happen, after}
+use Rattle.gang_model.specs.Debugger.Events.{Event, Step, Poke, Poked, WholeOf, LaneOf, ElementAt, InFrame, Given, started, start, with_rows, initial_memory, poked, gone, happen, after}
+use Rattle.gang_model.specs.Debugger.Frames.{state_at}
 use Rattle.gang_model.proofs.LaneWords.{if_ok_after}
 
 -- a state has at most 64 frames
@@ -128,10 +129,25 @@ shallow_gone (Goes next) state h k = k
 shallow_gone (Fails fault) state h k = h
 shallow_gone Over state h k = h
 
+words_length : (state : State) (v : VarId) (words : List ℕ) → length (with_words_in state v words).frames ≡ length state.frames
+words_length state (File n) words = refl
+words_length state (Local n) words = length-with_first (with_var (Local n) words) state.frames
+
+under_length : (n : ℕ) (frames below : List Frame) → length below ≡ length (drop n frames) → length (take n frames ++ below) ≡ length frames
+under_length zero frames below h = h
+under_length (suc n) [] below h = h
+under_length (suc n) (frame ∷ frames) below h = ap suc (under_length n frames below h)
+
+-- a poke leaves as many frames as there were
+pub poked_length : (what : Poked) (word : ℕ) (state : State) → length (poked what word state).frames ≡ length state.frames
+poked_length (WholeOf v) word state = words_length state v _
+poked_length (LaneOf v k) word state = words_length state v _
+poked_length (ElementAt v k) word state = refl
+poked_length (InFrame deep what) word state =
+    under_length (length state.frames - deep) state.frames (poked what word (state_at deep state)).frames (poked_length what word (state_at deep state))
+
 shallow_poked : (what : Poked) (word : ℕ) (state : State) → IsShallow state → IsShallow (poked what word state)
-shallow_poked (WholeOf v) word state h = shallow_words state v _ h
-shallow_poked (LaneOf v k) word state h = shallow_words state v _ h
-shallow_poked (ElementAt v k) word state h = h
+shallow_poked what word state h = subst (λ n. n ≤ 64) (sym (poked_length what word state)) h
 
 shallow_happen : (p : Program) (event : Event) (state : State) → IsShallow state → IsShallow (happen p event state)
 shallow_happen p Step state h = shallow_gone (step p state) state h (shallow_step p state h)

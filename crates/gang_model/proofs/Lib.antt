@@ -2,6 +2,7 @@ pub mod AcceptedOrder
 pub mod AfterEvents
 pub mod CommandReplies
 pub mod FrameCount
+mod FramePokes
 pub mod JudgedLaws
 pub mod LaneWords
 pub mod NestingLaws

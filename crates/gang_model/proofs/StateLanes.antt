@@ -1,6 +1,6 @@
 -- Each set of lanes in a state has a place for each lane of the gang, from the start and after each event.
-use Rattle.std.proofs.Common.{◌≡◌, subst, ◌∙◌, ℕ, suc, Bool, true, false, List, [], ◌∷◌, ◌++◌, length, Option, Some, None}
-use Rattle.std.specs.Prelude.{Result, Ok, Err, not, ◌==◌, IfOk, map, replicate, slice_get, if◌then◌else◌}
+use Rattle.std.proofs.Common.{◌≡◌, subst, ◌∙◌, ℕ, zero, suc, ◌-◌, Bool, true, false, List, [], ◌∷◌, ◌++◌, length, Option, Some, None}
+use Rattle.std.specs.Prelude.{Result, Ok, Err, not, ◌==◌, IfOk, map, replicate, slice_get, take, drop, if◌then◌else◌}
 use Rattle.gang_types.specs.declared.types.Rate.{Rate}
 use Rattle.gang_types.specs.declared.types.IntType.{IntType}
 use Rattle.gang_types.specs.declared.types.IntType.TheVariants as t
@@ -15,7 +15,8 @@ use Rattle.gang_model.specs.Running.Rounds.{Turn, rounds}
 use Rattle.gang_model.specs.Running.Value.{value}
 use Rattle.gang_model.specs.Running.Library.{rank}
 use Rattle.gang_model.specs.Running.Step.{task, opened_before, opened, opened_task, settled, with_tasks, first_do, leaves_task, ends_break, ends_turn, broken, continued, returned, returned_on, deliver, left, leave, Passed, new_frame, entered, with_store, round_tasks, round_number, segment_tasks, or_default, labelled, default_of, run, perform, Stepped, Goes, Fails, Over, stepped, step_task, step_frame, step, Written, ToVar, ToElements, write, packed, initial, reached, old_values, passed, part}
-use Rattle.gang_model.specs.Debugger.Events.{Event, Step, Poke, Poked, WholeOf, LaneOf, ElementAt, Given, started, start, with_rows, initial_memory, poked, gone, happen, after}
+use Rattle.gang_model.specs.Debugger.Events.{Event, Step, Poke, Poked, WholeOf, LaneOf, ElementAt, InFrame, Given, started, start, with_rows, initial_memory, poked, gone, happen, after}
+use Rattle.gang_model.specs.Debugger.Frames.{state_at}
 use Rattle.std.proofs.lemmas.List.{length-replicate}
 use Rattle.gang_model.proofs.LaneWords.{if_ok_after, if_ok_bind}
 use Rattle.gang_types.specs.LaneLaws.{length-without, length-lanes_where}
@@ -219,10 +220,19 @@ module _ (w : ℕ) where
   sized-gone (Fails fault) state h k = h
   sized-gone Over state h k = h
 
+  -- frames under others have their sizes where those under them do
+  sized-under : (n : ℕ) (frames below : List Frame) → FramesSized w frames → (FramesSized w (drop n frames) → FramesSized w below)
+      → FramesSized w (take n frames ++ below)
+  sized-under zero frames below h k = k h
+  sized-under (suc n) [] below h k = k tt
+  sized-under (suc n) (frame ∷ frames) below h k = (h.0, sized-under n frames below h.1 k)
+
   sized-poked : (what : Poked) (word : ℕ) (state : State) → StateSized w state → StateSized w (poked what word state)
   sized-poked (WholeOf v) word state h = sized-words state v _ h
   sized-poked (LaneOf v k) word state h = sized-words state v _ h
   sized-poked (ElementAt v k) word state h = h
+  sized-poked (InFrame deep what) word state h =
+      sized-under (length state.frames - deep) state.frames (poked what word (state_at deep state)).frames h (λ k. sized-poked what word (state_at deep state) k)
 
   sized-happen : (p : Program) (event : Event) (state : State) → StateSized w state → StateSized w (happen p event state)
   sized-happen p Step state h = sized-gone (step p state) state h (sized-step p state h)

@@ -1,7 +1,7 @@
 -- In a program whose steps are numbered in running order, the tasks of each frame stand in that order, from the start and after
 -- each event.
-use Rattle.std.proofs.Common.{◌≡◌, refl, ℕ, ◌+◌, ◌≤◌, Bool, true, false, List, [], ◌∷◌, ◌++◌, Option, Some, None, suc, arith}
-use Rattle.std.specs.Prelude.{Result, Ok, Err, IfOk, map, slice_get, length, replicate, not, ◌==◌, if◌then◌else◌}
+use Rattle.std.proofs.Common.{◌≡◌, refl, ℕ, zero, ◌+◌, ◌-◌, ◌≤◌, Bool, true, false, List, [], ◌∷◌, ◌++◌, Option, Some, None, suc, arith}
+use Rattle.std.specs.Prelude.{Result, Ok, Err, IfOk, map, slice_get, length, replicate, take, drop, not, ◌==◌, if◌then◌else◌}
 use Rattle.gang_types.specs.declared.types.Rate.{Rate}
 use Rattle.gang_types.specs.declared.types.IntType.{IntType}
 use Rattle.gang_types.specs.declared.types.IntType.TheVariants as t
@@ -16,7 +16,8 @@ use Rattle.gang_model.specs.Running.Rounds.{Turn, rounds}
 use Rattle.gang_model.specs.Running.Value.{value}
 use Rattle.gang_model.specs.Running.Library.{rank}
 use Rattle.gang_model.specs.Running.Step.{steps_of, task, opened_before, opened, opened_task, settled, settle, with_tasks, first_do, leaves_task, ends_break, ends_turn, broken, continued, returned, returned_on, deliver, left, leave, Passed, new_frame, entered, with_store, round_tasks, round_number, segment_tasks, or_default, labelled, default_of, run, perform, Stepped, Goes, Fails, Over, stepped, step_task, step_frame, step, Written, ToVar, ToElements, write, packed, initial, reached, old_values, passed, part}
-use Rattle.gang_model.specs.Debugger.Events.{Event, Step, Poke, Poked, WholeOf, LaneOf, ElementAt, Given, started, start, with_rows, initial_memory, poked, gone, happen, after}
+use Rattle.gang_model.specs.Debugger.Events.{Event, Step, Poke, Poked, WholeOf, LaneOf, ElementAt, InFrame, Given, started, start, with_rows, initial_memory, poked, gone, happen, after}
+use Rattle.gang_model.specs.Debugger.Frames.{state_at}
 use Rattle.gang_model.specs.Running.RunningOrder.{IsNumbered, IsNumberedTask, first_number, past_number, InOrder, FrameInOrder, FramesInOrder, TopInOrder, IsNumberedProgram}
 use Rattle.gang_model.proofs.LaneWords.{if_ok_after}
 
@@ -271,10 +272,19 @@ module _ (p : Program) (numbered : IsNumberedProgram p) where
   in_poke : (state : State) (v : VarId) (words : List ℕ) → FramesInOrder p state.frames → FramesInOrder p (with_words_in state v words).frames
   in_poke state v words h = all_of 0 (with_words_in state v words).frames (in_words 0 state v words (top_of state.frames h))
 
+  -- frames under others keep the order where those under them do
+  in_under : (n : ℕ) (frames below : List Frame) → FramesInOrder p frames → (FramesInOrder p (drop n frames) → FramesInOrder p below)
+      → FramesInOrder p (take n frames ++ below)
+  in_under zero frames below h k = k h
+  in_under (suc n) [] below h k = k tt
+  in_under (suc n) (frame ∷ frames) below h k = (h.0, in_under n frames below h.1 k)
+
   in_poked : (what : Poked) (word : ℕ) (state : State) → FramesInOrder p state.frames → FramesInOrder p (poked what word state).frames
   in_poked (WholeOf v) word state h = in_poke state v _ h
   in_poked (LaneOf v k) word state h = in_poke state v _ h
   in_poked (ElementAt v k) word state h = h
+  in_poked (InFrame deep what) word state h =
+      in_under (length state.frames - deep) state.frames (poked what word (state_at deep state)).frames h (λ k. in_poked what word (state_at deep state) k)
 
   in_happen : (event : Event) (state : State) → FramesInOrder p state.frames → FramesInOrder p (happen p event state).frames
   in_happen Step state h = in_gone (step p state) state h (in_step state h)

@@ -1,3 +1,4 @@
 pub mod Positions
+pub mod Frames
 pub mod Events
 pub mod Debugger

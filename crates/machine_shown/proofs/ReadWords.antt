@@ -41,7 +41,7 @@ module _ {T : Type 0} (history : T → History) (width : ℕ) (compiled : Compil
     left_declared = declared_up_to (program_of compiled) (variables_of compiled) width regions masked shows.shows deep shows.declared
 
     -- what is seen at the depth is seen in the top one of the frames up to it
-    seen_up_to : (v : Variable) → IsSeenAt compiled deep masked v → IsSeen compiled (masked_up_to deep masked) v
+    pub seen_up_to : (v : Variable) → IsSeenAt compiled deep masked v → IsSeen compiled (masked_up_to deep masked) v
     seen_up_to v seen = subst (λ (spot : Option Spot). IsSeenOf compiled spot v) (spot_up_to (program_of compiled) (variables_of compiled) width regions masked shows.shows deep) seen
 
   module _ (shown : WordsShown) (has : HasWords width compiled (regions_up_to deep (regions_in history width words)) id shown) where

@@ -7,6 +7,7 @@ use Rattle.gang_model.specs.Types.Tree.{Variable, Standing, Function}
 use Rattle.gang_model.specs.Debugger.Debugger.{bad_part, shown_words}
 use Rattle.gang_model.specs.Debugger.Positions.{spot_in}
 use Rattle.debug_traits.specs.declared.machine.Position.{Position}
+use Rattle.debug_traits.specs.Frames.{state_at}
 use Rattle.mask_states.specs.Masked.{Masked, masked_lanes, masked_spot}
 use Rattle.frame_steps.specs.declared.compiled.CompiledProgram.{CompiledProgram}
 use Rattle.frame_steps.specs.Compiled.{function_of, variables_of}
@@ -56,3 +57,7 @@ IsSeenAt compiled deep masked v = IsSeenOf compiled (masked_spot_at deep masked)
 -- what can be set of a variable: a whole scalar, a lane of a varying one, or an element that is there
 abbrev pub IsPartOf : Masked → Variable → Option ℕ → Type 0
 IsPartOf masked v part = bad_part false part v.is_array v.rate (length (shown_words masked.state v)) ≡ None
+
+-- the same of a variable in the frame at a depth
+abbrev pub IsPartAt : (depth : ℕ) → Masked → Variable → Option ℕ → Type 0
+IsPartAt deep masked v part = bad_part false part v.is_array v.rate (length (shown_words (state_at deep masked.state) v)) ≡ None

@@ -17,6 +17,7 @@ use Rattle.frame_steps.specs.declared.active.Active.{Active}
 use Rattle.frame_steps.specs.declared.compiled.CompiledProgram.{CompiledProgram}
 use Rattle.frame_steps.specs.Compiled.{variables_of}
 use Rattle.frame_steps.specs.Standing.{IsActive}
+use Rattle.machine_shown.specs.Frames.{regions_up_to}
 use Rattle.machine_shown.specs.declared.found.ShownWords.{ShownWords}
 use Rattle.machine_shown.specs.declared.found.ShownWords.TheVariants.{Scalar, Elements}
 
@@ -119,3 +120,8 @@ set_in width shown part word regions =
 pub record IsSetIn (width : ℕ) (compiled : CompiledProgram) (id : VarId) (part : Option ℕ) (word : ℕ) (old new : Regions) : Type 0 where
   pub there : (shown : WordsShown) → HasWords width compiled old id shown → (r : Region) → new r ≡ set_in width shown part word old r
   pub none : HasNoWords width compiled old id → (r : Region) → new r ≡ old r
+
+-- the same of a variable of the frame at a depth: no word of another frame is set
+pub record IsSetAt (width : ℕ) (compiled : CompiledProgram) (deep : ℕ) (id : VarId) (part : Option ℕ) (word : ℕ) (old new : Regions) : Type 0 where
+  pub there : (shown : WordsShown) → HasWords width compiled (regions_up_to deep old) id shown → (r : Region) → new r ≡ set_in width shown part word old r
+  pub none : HasNoWords width compiled (regions_up_to deep old) id → (r : Region) → new r ≡ old r

@@ -9,4 +9,4 @@ mod shown;
 
 pub use frames::{frame_count, step_at};
 pub use positions::{call, position};
-pub use shown::{count, poke, word};
+pub use shown::{count, poke, poke_at, word};

@@ -3,15 +3,15 @@ ghost use Rattle.std.specs.Prelude.{◌≡◌, ◌≤◌, true, false, Some, len
 ghost use Rattle.gang_types.specs.Masks.{IsGangWidth};
 ghost use Rattle.gang_model.specs.Types.Tree.{Variable};
 ghost use Rattle.gang_model.specs.Debugger.Debugger.{poked_by, shown_words};
-ghost use Rattle.gang_model.specs.Debugger.Events.{poked};
+ghost use Rattle.gang_model.specs.Debugger.Events.{InFrame, poked};
 ghost use Rattle.mask_states.specs.Masked.{Masked};
 ghost use Rattle.undo_log.specs.declared.timeline.Undone.TheVariants as undone;
 ghost use Rattle.machine_words.specs.Words.{AreLaid, Writes, left_of, regions_in};
 ghost use Rattle.frame_steps.specs.Standing.{AreSound, IsShown, Records};
 ghost use Rattle.debug_traits.specs.Frames.{state_at};
 ghost use Rattle.machine_shown.specs.Frames.{regions_up_to};
-ghost use Rattle.machine_shown.specs.Seen.{IsPartOf, IsSeen, IsSeenAt};
-ghost use Rattle.machine_shown.specs.ShownWords.{AreInRegion, IsCountOf, IsSetIn, IsWordOf, has_part, part_set, region_shown, shown_view, words_shown};
+ghost use Rattle.machine_shown.specs.Seen.{IsPartAt, IsPartOf, IsSeen, IsSeenAt};
+ghost use Rattle.machine_shown.specs.ShownWords.{AreInRegion, IsCountOf, IsSetAt, IsSetIn, IsWordOf, has_part, part_set, region_shown, shown_view, words_shown};
 
 use crate::found::{ShownWords, find_shown};
 use crate::frames::TOP;
@@ -95,7 +95,27 @@ pub fn poke<const W: usize, T: Timeline + Drop>(
     ensures shown { (masked : Masked) (v : Variable) → IsShown T.history W compiled.now words.old masked → IsSeen compiled.now masked v → v.id ≡ variable
         → IsPartOf masked v at → IsShown T.history W compiled.now words.new (record masked { state = poked (poked_by v at) word masked.state }) }
 {
-    let shown = find_shown::<W, T>(compiled, words, TOP, variable);
+    poke_at::<W, T>(compiled, words, TOP, variable, at, word);
+}
+
+/// Sets a scalar of the file, or of the function of the frame at a depth, in all lanes or in one, or an element of an array, and records it.
+/// Where there is no such variable, lane or element, the record is all that is made.
+pub fn poke_at<const W: usize, T: Timeline + Drop>(
+    compiled: &CompiledProgram,
+    words: &mut MachineWords<T>,
+    depth: usize,
+    variable: VarId,
+    at: Option<u32>,
+    word: u64,
+)
+    requires sound { AreSound T.history W compiled.now words.old }
+    ensures sound { AreSound T.history W compiled.now words.new }
+    ensures records { Records T.history W undone.Poke words.old words.new }
+    ensures sets { IsSetAt W compiled.now depth variable at word (regions_in T.history W words.old) (regions_in T.history W words.new) }
+    ensures shown { (masked : Masked) (v : Variable) → IsShown T.history W compiled.now words.old masked → IsSeenAt compiled.now depth masked v → v.id ≡ variable
+        → IsPartAt depth masked v at → IsShown T.history W compiled.now words.new (record masked { state = poked (InFrame depth (poked_by v at)) word masked.state }) }
+{
+    let shown = find_shown::<W, T>(compiled, words, depth, variable);
     begin::<W, T>(words, Undone::Poke);
     if let Some(shown) = shown {
         set_part::<W, T>(words, shown, at, word);

@@ -3,11 +3,9 @@ use Rattle.std.specs.Prelude.{ℕ, Bool, true, false, Option, Some, None}
 use Rattle.gang_model.specs.Debugger.Debugger.{Target}
 use Rattle.debug_commands.specs.Views.{target_view}
 use Rattle.debug_answers.specs.declared.answer.Answer.{Answer}
-use Rattle.debug_traits.specs.declared.machine.Shown.{Shown}
 use Rattle.debug_commands.specs.declared.command.Target as declared
 use Rattle.debug_answers.specs.declared.answer.Answer.TheVariants as answer
 use Rattle.prompt_scenes.specs.declared.holding.LastMove.{LastMove}
-use Rattle.prompt_scenes.specs.SelectedFrame as selection
 use Rattle.prompt_scenes.specs.declared.holding.LastMove.TheVariants as last
 
 -- the breakpoint that stopped a move
@@ -66,8 +64,3 @@ is_refusal given = false
 abbrev pub counted_view : Option (declared.Target × ℕ) → Option (Target × ℕ)
 counted_view None = None
 counted_view (Some named) = Some (target_view named.0, named.1)
-
--- whether a variable is of the file
-abbrev pub is_of_file : Option Shown → Bool
-is_of_file None = false
-is_of_file (Some shown) = selection.is_file shown.id

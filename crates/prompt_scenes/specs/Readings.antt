@@ -1,7 +1,7 @@
 -- What command lines, commands and answers tell.
 use Rattle.std.specs.Prelude.{ℕ, ◌-◌, ◌==◌, Bool, true, false, not, List, drop, take, length, Option, Some, None, option_and_then, if◌then◌else◌}
 use Rattle.std.specs.List.{list_any, suffix_len}
-use Rattle.gang_model.specs.Debugger.Debugger.{Answer, AtBreakpoint, AtWatch, BreaksAt, Command, DoContinue, DoDelete, DoFinish, DoNext, DoPrint, DoReverseContinue, DoReverseFinish, DoReverseNext, DoReverseStep, DoSet, DoStep, DoUndo, DoWatch, Refused, Shows, Target, Watches, Here, HistoryEnd}
+use Rattle.gang_model.specs.Debugger.Debugger.{Answer, AtBreakpoint, AtWatch, BreaksAt, Command, DoContinue, DoDelete, DoFinish, DoNext, DoPrint, DoReverseContinue, DoReverseFinish, DoReverseNext, DoReverseStep, DoSet, DoSetIn, DoStep, DoUndo, DoWatch, Refused, Shows, Target, Watches, Here, HistoryEnd}
 use Rattle.gang_model.specs.Texts.CommandText.{command_of, index}
 use Rattle.gang_model.specs.Texts.Spellings.{is_blank}
 use Rattle.prompt_lines.specs.Words.{argument_of, moment_of}
@@ -135,4 +135,5 @@ command_repeats (Some command) = moves command
 -- whether a command sets a target
 abbrev pub sets : Option Command → Bool
 sets (Some (DoSet target z)) = true
+sets (Some (DoSetIn deep target z)) = true
 sets command = false

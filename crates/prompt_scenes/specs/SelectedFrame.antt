@@ -1,12 +1,10 @@
 -- The frame that is selected, and what is shown and done in it.
-use Rattle.std.specs.Prelude.{ℕ, ◌+◌, ◌-◌, ◌==◌, ◌&&◌, Bool, true, false, nat_lt, List, [], length, Option, Some, None, is_none, option_and_then, option_map, if◌then◌else◌}
-use Rattle.gang_model.specs.Debugger.Debugger.{Command, Debugger, DoPrint, Setting, Target, bad_part, depth, do_command, found, now, shown_words}
+use Rattle.std.specs.Prelude.{ℕ, ◌+◌, ◌-◌, ◌==◌, Bool, true, false, nat_lt, List, [], length, Option, Some, None, is_none, option_and_then, option_map, if◌then◌else◌}
+use Rattle.gang_model.specs.Debugger.Debugger.{Command, Debugger, DoPrint, Setting, Target, bad_part, depth, do_command, now, shown_words}
 use Rattle.gang_model.specs.Types.Tree.{Variable}
-use Rattle.gang_types.specs.declared.places.VarId.{VarId}
 use Rattle.gang_model.specs.Texts.CommandText.{index}
 use Rattle.debug_traits.specs.Frames.{found_at, state_at}
 use Rattle.prompt_lines.specs.Words.{argument_of, is_alone}
-use Rattle.gang_types.specs.declared.places.VarId.TheVariants as id
 use Rattle.prompt_scenes.specs.Holding.{Held}
 use Rattle.prompt_scenes.specs.Readings.{is_shown}
 
@@ -39,20 +37,6 @@ in_top h commands = if h.frame == 0 then commands else []
 abbrev pub can_show : Setting → Debugger → (depth : ℕ) → Target → Option Variable → Bool
 can_show s d deep target None = false
 can_show s d deep target (Some v) = is_none (bad_part true target.at v.is_array v.rate (length (shown_words (state_at deep (now s d)) v)))
-
--- whether a variable is of the file, by its number
-abbrev pub is_file : VarId → Bool
-is_file (id.File number) = true
-is_file (id.Local number) = false
-
-abbrev pub is_of_file : Option Variable → Bool
-is_of_file None = false
-is_of_file (Some v) = is_file v.id
-
--- whether a name can be set: in an outer frame where it stands for a variable of the file there and in the top frame
-abbrev pub may_set : Setting → Debugger → Held → (name : List ℕ) → Bool
-may_set s d h name =
-    if h.frame == 0 then true else is_of_file (found_at s.program (depth_of s d h) (now s d) name) && is_of_file (found s.program (now s d) name)
 
 -- whether a target is shown in the frame that is selected
 abbrev pub shows : Setting → Debugger → Held → Target → Bool

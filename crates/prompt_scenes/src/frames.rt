@@ -9,7 +9,6 @@ ghost use Rattle.debug_traits.specs.Frames.{found_at};
 ghost use Rattle.prompt_scenes.specs.Holding.{held};
 ghost use Rattle.prompt_scenes.specs.SelectedFrame as selection;
 ghost use Rattle.prompt_scenes.specs.Readings as readings;
-ghost use Rattle.prompt_scenes.specs.Given as given;
 
 use crate::holding::Holding;
 use crate::readings::count_of;
@@ -17,7 +16,7 @@ use debug_answers::Refusal;
 use debug_commands::Target;
 use debug_session::Session;
 use debug_traits::{FramedMachine, RecordedMachine, Shown};
-use gang_types::{Rate, VarId};
+use gang_types::Rate;
 use prompt_lines::{argument, index, is_alone};
 
 /// How many frames there are; a program that has ended counts as one.
@@ -78,43 +77,6 @@ pub fn select<M: RecordedMachine>(number: Option<u128>, holding: &mut Holding, s
         if number < depth(session) as u128 {
             holding.select(number as usize);
         }
-    }
-}
-
-/// Whether a name can be set: in an outer frame where it stands for a variable of the file there and in the top frame.
-pub fn may_set<M: FramedMachine>(name: &[u8], holding: &Holding, session: &Session<M>) -> bool
-    ensures { (s : Setting) (d : Debugger) → StandsFor M.stands session.now s d → result ≡ selection.may_set s d (held holding.now) name.now }
-{
-    if holding.is_top() {
-        return true;
-    }
-    let depth = selected_depth(holding, session);
-    is_of_file_at(name, depth, session) && is_of_file_now(name, session)
-}
-
-/// Whether a name stands for a variable of the file in the frame at a depth.
-fn is_of_file_at<M: FramedMachine>(name: &[u8], depth: usize, session: &Session<M>) -> bool
-    ensures { (s : Setting) (d : Debugger) → StandsFor M.stands session.now s d
-        → result ≡ selection.is_of_file (found_at s.program depth (now s d) name.now) }
-{
-    is_of_file(session.machine().find_at(depth, name))
-}
-
-/// Whether a name stands for a variable of the file in the top frame.
-fn is_of_file_now<M: RecordedMachine>(name: &[u8], session: &Session<M>) -> bool
-    ensures { (s : Setting) (d : Debugger) → StandsFor M.stands session.now s d
-        → result ≡ selection.is_of_file (model.found s.program (now s d) name.now) }
-{
-    is_of_file(session.machine().find(name))
-}
-
-/// Whether a variable is of the file.
-fn is_of_file(shown: Option<Shown>) -> bool
-    ensures { result ≡ given.is_of_file shown }
-{
-    match shown {
-        Some(shown) => matches!(shown.id, VarId::File(_)),
-        None => false,
     }
 }
 

@@ -7,9 +7,7 @@ mod readings;
 mod scene;
 mod watching;
 
-pub use frames::{
-    depth, find_part, frame_above, frame_below, frame_named, may_set, select, selected_depth,
-};
+pub use frames::{depth, find_part, frame_above, frame_below, frame_named, select, selected_depth};
 pub use holding::{Checkpoint, Displayed, Holding, LastMove};
 pub use readings::{
     changes_named, command_repeats, delete_of, index_named, is_here, is_history_end, is_move,

@@ -80,7 +80,7 @@ name_text (name.Behind places) = codes "$$" ++ signed_decimal (pos places)
 
 -- how many values were printed, and how many are kept
 abbrev pub count_text : (count : ℕ) → Bytes
-count_text count = codes ": " ++ signed_decimal (pos count) ++ codes " were printed, and the last 100 are kept.\n"
+count_text count = codes ": values printed so far: " ++ signed_decimal (pos count) ++ codes ", and the last 100 are kept.\n"
 
 -- why a name has no value, where the next one gets this number: it was never printed, or is kept no more
 abbrev pub none_text : ValueName → (next : ℕ) → Bytes

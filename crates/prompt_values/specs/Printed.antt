@@ -1,6 +1,6 @@
 -- What is written where a value is printed, and what is printed.
-use Rattle.std.specs.Prelude.{◌≡◌, ⊤, ℕ, zero, suc, ◌&&◌, Bool, not, nat_lt, List, ◌++◌, codes, length, Option, Some, None}
-use Rattle.gang_model.specs.Debugger.Debugger.{Debugger, Setting}
+use Rattle.std.specs.Prelude.{◌≡◌, ◌⊎◌, ⊤, ℕ, zero, suc, ◌&&◌, Bool, not, nat_lt, List, ◌++◌, codes, length, Option, Some, None}
+use Rattle.gang_model.specs.Debugger.Debugger.{Debugger, Setting, Target}
 use Rattle.gang_model.specs.Texts.Text.{Bytes, target_text}
 use Rattle.debug_answers.specs.declared.answer.Answer.{Answer}
 use Rattle.debug_answers.specs.declared.answer.Answer.TheVariants as answer
@@ -37,6 +37,11 @@ IsPrintedOf text s d deep (Some (printed.Expression value)) = IsValueOf text s d
 abbrev pub TellsAnswer : (puts : Bytes → Type 0) → Answer → Option Printed → Type 0
 TellsAnswer puts (answer.Shows target shown) value = puts (line_or_none (target_text (target_view target)) in_digits.Decimal value)
 TellsAnswer puts other value = value ≡ None
+
+-- what a target has that was set is written behind it, or nothing was printed; where the answer is another one nothing was
+abbrev pub TellsSet : (puts : Bytes → Type 0) → Target → Answer → Option Printed → Type 0
+TellsSet puts target answer.Silent value = (value ≡ None) ⊎ puts (line_or_none (target_text target) in_digits.Decimal value)
+TellsSet puts target other value = value ≡ None
 
 -- what was printed is written behind a front
 abbrev pub IsLineOf : (puts : Bytes → Type 0) → (front : Bytes) → Digits → Option Printed → Type 0

@@ -20,7 +20,7 @@ use frame_expressions::ExpressionMachine;
 use frame_values::{ExpressionValue, value_of_expression};
 use prompt_lines::{HELD, count_place, is_alone, stripped};
 use prompt_scenes::{Holding, Scene, selected_depth};
-use prompt_texts::{Digits, Page, Spelled, show_expression, tell_no_value, tell_unknown};
+use prompt_texts::{Digits, Page, Spelled, show_expression, tell_no_value, tell_unspelled};
 
 /// How many bytes the word has that a command line begins with.
 const WORD: usize = 5;
@@ -124,7 +124,7 @@ pub fn print_expression<M: ExpressionMachine, O: AnswerWriter + Drop>(
             page,
         )
     } else {
-        tell_unknown(scene.line, page);
+        tell_unspelled(text, scene.line, page);
         None
     }
 }

@@ -21,7 +21,7 @@ use frame_values::{NoValue, value_of_expression};
 use prompt_lines::{printing_line, stripped};
 use prompt_scenes::{Displayed, Holding, Scene, depth, find_part, print_of, selected_depth};
 use prompt_texts::{
-    Digits, Page, show_expression, show_faulty, tell_refused, tell_refused_here, tell_unknown,
+    Digits, Page, show_expression, show_faulty, tell_refused, tell_refused_here, tell_unspelled,
 };
 
 /// The word that a command line begins with which prints.
@@ -100,7 +100,7 @@ pub fn print_formatted<M: ExpressionMachine, O: AnswerWriter + Drop>(
     match form_named(text) {
         Some(form) => print_form(form, values, holding, scene, session, page),
         None => {
-            tell_unknown(scene.line, page);
+            tell_unspelled(text, scene.line, page);
             None
         }
     }
@@ -150,7 +150,7 @@ pub fn show_formatted<M: ExpressionMachine, O: AnswerWriter + Drop>(
         Some(form) => {
             let _ = print_named_form(form, holding, scene, session, page);
         }
-        None => tell_unknown(scene.line, page),
+        None => tell_unspelled(text, scene.line, page),
     }
 }
 

@@ -21,4 +21,4 @@ pub use telling::{
     tell_condition, tell_conditions, tell_counted, tell_missing, tell_moved, tell_no_stop,
     tell_passes, tell_said, tell_unheld, tell_watch_conditions,
 };
-pub use values::{do_and_show, print_answer, print_shown, show_target, tell_answer};
+pub use values::{do_and_show, print_answer, print_shown, set_and_show, show_target, tell_answer};

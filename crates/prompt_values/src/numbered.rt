@@ -210,16 +210,16 @@ fn tell_none<O: AnswerWriter + Drop>(name: ValueName, next: u32, page: &mut Page
 fn put_count<O: AnswerWriter + Drop>(count: u32, page: &mut Page<O>)
     ensures { Puts (spec.count_text count) page.old.has_failed page.new.has_failed (O.written page.old.writer) (O.written page.new.writer) }
 {
-    page.put(b": ");
+    page.put(b": values printed so far: ");
     put_printed_number(count, page);
 }
 
 /// Writes how many values were printed, and how many are kept.
 fn put_printed_number<O: AnswerWriter + Drop>(count: u32, page: &mut Page<O>)
-    ensures { Puts (signed_decimal (pos count) ++ codes " were printed, and the last 100 are kept.\n") page.old.has_failed page.new.has_failed (O.written page.old.writer) (O.written page.new.writer) }
+    ensures { Puts (signed_decimal (pos count) ++ codes ", and the last 100 are kept.\n") page.old.has_failed page.new.has_failed (O.written page.old.writer) (O.written page.new.writer) }
 {
     page.put_number(i128::from(count));
-    page.put(b" were printed, and the last 100 are kept.\n");
+    page.put(b", and the last 100 are kept.\n");
 }
 
 /// Writes a line: a value behind its number.

@@ -251,7 +251,11 @@ fn stop_number(answer: &Answer<'_>) -> Option<u32> {
 /// Tells in which lanes a condition holds.
 fn tell_lanes<O: AnswerWriter + Drop>(text: &[u8], found: HoldingLanes, page: &mut Page<O>) {
     page.put_masked(text);
-    page.put(b" holds in lanes");
+    page.put(if is_one_lane(found) {
+        b" holds in lane"
+    } else {
+        b" holds in lanes"
+    });
     for lane in 0..found.width.min(WIDEST) {
         if found.lanes.has::<WIDEST>(lane) {
             page.put(b" ");
@@ -259,6 +263,17 @@ fn tell_lanes<O: AnswerWriter + Drop>(text: &[u8], found: HoldingLanes, page: &m
         }
     }
     page.put(b"\n");
+}
+
+/// Whether a condition holds in one lane alone.
+fn is_one_lane(found: HoldingLanes) -> bool {
+    let mut count = 0u32;
+    for lane in 0..found.width.min(WIDEST) {
+        if found.lanes.has::<WIDEST>(lane) {
+            count = count.saturating_add(1);
+        }
+    }
+    count == 1
 }
 
 /// Tells why a condition has no value.

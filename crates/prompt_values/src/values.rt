@@ -1,6 +1,6 @@
 //! What a variable shows: its lanes or its elements, or some of them.
 ghost use Rattle.std.specs.Prelude.{◌∷◌, []};
-ghost use Rattle.gang_model.specs.Debugger.Debugger.{Debugger, Setting};
+ghost use Rattle.gang_model.specs.Debugger.Debugger.{Debugger, DoSetIn, Setting};
 ghost use Rattle.command_lists.specs.Lists.{HasDone};
 ghost use Rattle.gang_model.specs.Texts.Text.{target_text};
 ghost use Rattle.debug_commands.specs.Views.{command_view, target_view};
@@ -13,8 +13,10 @@ use debug_answers::Answer;
 use debug_commands::{Command, Target};
 use debug_session::Session;
 use debug_traits::{AnswerWriter, FramedMachine, Shown};
-use prompt_scenes::{Scene, depth};
-use prompt_texts::{Digits, Page, lanes_at, put_told, show_value, tell, told_variable};
+use prompt_scenes::{Scene, depth, find_part};
+use prompt_texts::{
+    Digits, Page, lanes_at, put_told, show_value, tell, tell_refused_at, told_variable,
+};
 
 /// What is said where memory runs out.
 pub(crate) const NO_MEMORY: &[u8] = b"C12 Memory: there is no memory to show this.\n";
@@ -160,4 +162,56 @@ pub fn do_and_show<M: FramedMachine, O: AnswerWriter + Drop>(
 {
     let answer = session.do_command(command);
     tell_answer(&answer, scene, session, page);
+}
+
+/// Sets a value in the frame at a depth, and shows what the target has there then, or tells why it is not set.
+pub fn set_and_show<M: FramedMachine, O: AnswerWriter + Drop>(
+    target: Target<'_>,
+    value: i128,
+    depth: usize,
+    scene: Scene<'_>,
+    session: &mut Session<M>,
+    page: &mut Page<O>,
+)
+    ensures { (s : Setting) (d : Debugger) → StandsFor M.stands session.old s d
+        → HasDone M.stands s (DoSetIn depth (target_view target.entry) value ∷ []) d session.new }
+{
+    let answer = session.set_in(depth, target, value);
+    let _ = tell_set(&answer, target, depth, scene, session.machine(), page);
+}
+
+/// Shows a target of the frame at a depth, where the answer says that it was set, or tells why it was not. Gives what was shown.
+fn tell_set<M: FramedMachine, O: AnswerWriter + Drop>(
+    answer: &Answer<'_>,
+    target: Target<'_>,
+    depth: usize,
+    scene: Scene<'_>,
+    machine: &M,
+    page: &mut Page<O>,
+) -> Option<Printed>
+    ensures { spec.TellsSet (λ text. Puts text page.old.has_failed page.new.has_failed (O.written page.old.writer) (O.written page.new.writer)) (target_view target.entry) answer.now result }
+{
+    match answer {
+        Answer::Silent => match find_part(target, depth, machine) {
+            Ok(shown) => print_shown(target, Digits::Decimal, shown, depth, scene, machine, page),
+            Err(_) => None,
+        },
+        other => {
+            tell_refusal(other, depth, scene, machine, page);
+            None
+        }
+    }
+}
+
+/// Tells why a value is not set in the frame at a depth, where the answer refuses it.
+fn tell_refusal<M: FramedMachine, O: AnswerWriter + Drop>(
+    answer: &Answer<'_>,
+    depth: usize,
+    scene: Scene<'_>,
+    machine: &M,
+    page: &mut Page<O>,
+) {
+    if let Answer::Refused(refusal) = answer {
+        tell_refused_at(*refusal, scene.line, depth, machine, page);
+    }
 }

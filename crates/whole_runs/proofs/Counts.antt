@@ -7,6 +7,7 @@ use Rattle.gang_model.specs.Debugger.Debugger.{is_step}
 use Rattle.whole_runs.specs.declared.notes.NotedPoke.{NotedPoke}
 use Rattle.whole_runs.proofs.TakenBack.{noted_last}
 use Rattle.whole_runs.specs.Notes.{events_of, noted, poke_of, poked_at, steps_on}
+use Rattle.whole_runs.specs.Pokes.{poked_in}
 
 -- how many of the newest events are steps
 abbrev pub steps_among : ℕ → List Event → ℕ
@@ -108,7 +109,7 @@ one_passed pokes all kept passed left steps any inside more h =
     let is = next_left pokes passed steps any inside in
     let l = left - (steps + 1) in
     let split : left ≡ steps + suc l = omega arith in
-    let counted = ap (steps_among left) is ∙ past_poke steps l left (poked_at note.shown note.at) note.word rest split in
+    let counted = ap (steps_among left) is ∙ past_poke steps l left (poked_in note.depth (poked_at note.shown note.at)) note.word rest split in
     let long = ap length is ∙ many_steps steps (poke_of note ∷ rest) in
     record {
       inside = let i = h.inside in omega (arith, i, long, split);

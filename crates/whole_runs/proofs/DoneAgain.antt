@@ -4,16 +4,18 @@ use Rattle.std.specs.Prelude.{if◌then◌else◌, Result, Ok, Err, is_err, true
 use Rattle.std.proofs.lemmas.List.{at_drop_more, at_drop_all}
 use Rattle.std.proofs.lemmas.Bool.{cases_lt}
 use Rattle.gang_model.specs.Types.Tree.{Variable}
-use Rattle.gang_model.specs.Debugger.Events.{Event, Step, Poke, WholeOf, LaneOf, ElementAt}
-use Rattle.gang_model.specs.Debugger.Debugger.{Debugger, Setting, moved, poked_by}
+use Rattle.gang_model.specs.Debugger.Events.{Event, Step, Poke, InFrame, WholeOf, LaneOf, ElementAt}
+use Rattle.gang_model.specs.Debugger.Debugger.{Debugger, Setting, fresh, moved, poked_by}
 use Rattle.debug_traits.specs.declared.machine.StepEnd.{StepEnd}
 use Rattle.debug_traits.specs.declared.machine.StepEnd.TheVariants as end
 use Rattle.debug_traits.specs.declared.machine.Shown.{Shown}
 use Rattle.debug_traits.specs.Beginnings.{StandsAt, with_events}
-use Rattle.debug_traits.specs.Machines.{IsPart, IsShown, Pokes, PokesOrNot, Steps}
+use Rattle.debug_traits.specs.Machines.{IsPart, Steps}
 use Rattle.whole_runs.specs.declared.notes.NotedPoke.{NotedPoke}
 use Rattle.whole_runs.specs.Notes.{AreNoted, CanGo, CanPoke, HaveGone, IsGoing, noted, poke_of, poked_at, steps_on}
+use Rattle.whole_runs.specs.Pokes.{IsShownIn, PokesIn, PokesInOrNot, poked_in}
 use Rattle.whole_runs.specs.Runs.{KeepsCopies}
+use Rattle.whole_runs.proofs.SeenSame.{shown_in_same}
 
 -- fewer steps were made too
 pub gone_less : (s : Setting) (n k : ℕ) (older : List Event) → k < n → HaveGone s n older → CanGo s (steps_on k older)
@@ -44,24 +46,34 @@ module _ {M : Type 0} (stands : M → Setting → Debugger → Type 0) where
   same_part v shown None id array = ap WholeOf id
   same_part v shown (Some k) id array = ap (λ i. if v.is_array then ElementAt i k else LaneOf i k) id ∙ ap (λ b. if b then ElementAt shown.id k else LaneOf shown.id k) array
 
+  pub same_part_in : (depth : Option ℕ) (s : Setting) (d : Debugger) (v : Variable) (shown : Shown) (at : Option ℕ) → IsShownIn depth s d v shown
+      → poked_in depth (poked_by v at) ≡ poked_in depth (poked_at shown at)
+  same_part_in None s d v shown at is = same_part v shown at is.id is.is_array
+  same_part_in (Some deep) s d v shown at is = ap (InFrame deep) (same_part v shown at is.id is.is_array)
+
   -- a poke that wants for no memory is done
-  pub surely : {X E : Type 0} (s : Setting) (d : Debugger) (v : Variable) (shown : Shown) (at : Option ℕ) (word : ℕ) (r : Result X E) (new : M) → (is_err r ≡ true → ⊥)
-      → PokesOrNot stands s d v shown at word r new → Pokes stands s d v shown at word new
-  surely s d v shown at word (Ok done) new sure pokes = pokes
-  surely s d v shown at word (Err memory) new sure pokes = absurd (sure refl)
+  pub surely : {X E : Type 0} (depth : Option ℕ) (s : Setting) (d : Debugger) (v : Variable) (shown : Shown) (at : Option ℕ) (word : ℕ) (r : Result X E) (new : M) → (is_err r ≡ true → ⊥)
+      → PokesInOrNot depth stands s d v shown at word r new → PokesIn depth stands s d v shown at word new
+  surely depth s d v shown at word (Ok done) new sure pokes = pokes
+  surely depth s d v shown at word (Err memory) new sure pokes = absurd (sure refl)
+
+  -- where it stands then
+  pub stands_poked : (depth : Option ℕ) (s : Setting) (d : Debugger) (v : Variable) (shown : Shown) (at : Option ℕ) (word : ℕ) (new : M) → PokesIn depth stands s d v shown at word new
+      → stands new s (moved (Poke (poked_in depth (poked_by v at)) word) d)
+  stands_poked None s d v shown at word new pokes = pokes.0
+  stands_poked (Some deep) s d v shown at word new pokes = pokes
 
   pub pokes_at : {X E : Type 0} (s : Setting) (d : Debugger) (old new : M) (events : List Event) (note : NotedPoke) (r : Result X E) → (is_err r ≡ true → ⊥) → CanPoke s events note → StandsAt stands old s d events
-      → ((s : Setting) (d : Debugger) (v : Variable) → stands old s d → IsShown s d v note.shown → IsPart note.at note.shown → PokesOrNot stands s d v note.shown note.at note.word r new)
+      → ((s : Setting) (d : Debugger) (v : Variable) → stands old s d → IsShownIn note.depth s d v note.shown → IsPart note.at note.shown → PokesInOrNot note.depth stands s d v note.shown note.at note.word r new)
       → StandsAt stands new s d (poke_of note ∷ events)
   pokes_at s d old new events note r sure can (kept, history, there) pokes =
       let e = with_events events kept history d in
-      let i = can.shown in
-      let shown : IsShown s e can.variable note.shown = record { there = i.there; id = i.id; type = i.type; rate = i.rate; is_array = i.is_array; is_constant = i.is_constant; count = i.count } in
-      let same : poked_by can.variable note.at ≡ poked_at note.shown note.at = same_part can.variable note.shown note.at i.id i.is_array in
-      let done = surely s e can.variable note.shown note.at note.word r new sure (pokes s e can.variable there shown can.part) in (
+      let shown = shown_in_same s (with_events events 0 0 (fresh 0)) e refl note.depth can.variable note.shown can.shown in
+      let same = same_part_in note.depth s e can.variable note.shown note.at shown in
+      let done = surely note.depth s e can.variable note.shown note.at note.word r new sure (pokes s e can.variable there shown can.part) in (
         (moved Step e).kept,
         history,
-        subst (λ what. stands new s (moved (Poke what note.word) e)) same done.0,
+        subst (λ what. stands new s (moved (Poke what note.word) e)) same (stands_poked note.depth s e can.variable note.shown note.at note.word new done),
       )
 
 -- ---- copies

@@ -8,6 +8,7 @@ use Rattle.debug_traits.specs.declared.machine.Shown.{Shown}
 use Rattle.debug_traits.specs.Beginnings.{with_events}
 use Rattle.debug_traits.specs.Frames.{IsShownAt, ShowsNextAt}
 use Rattle.debug_traits.specs.Machines.{ShowsNamed, ShowsNext}
+use Rattle.whole_runs.specs.Pokes.{IsShownIn}
 use Rattle.whole_runs.proofs.TakenBack.{shown_same}
 
 module _ (s : Setting) (d e : Debugger) (same : d.events ≡ e.events) where
@@ -26,6 +27,10 @@ module _ (s : Setting) (d e : Debugger) (same : d.events ≡ e.events) where
       let at : IsShownAt s (with_events d.events 0 0 d) deep v shown = record { there = i.there; id = i.id; type = i.type; rate = i.rate; is_array = i.is_array; is_constant = i.is_constant; count = i.count } in
       let j = subst (λ events. IsShownAt s (with_events events 0 0 d) deep v shown) same at in
       record { there = j.there; id = j.id; type = j.type; rate = j.rate; is_array = j.is_array; is_constant = j.is_constant; count = j.count }
+
+  pub shown_in_same : (depth : Option ℕ) (v : Variable) (shown : Shown) → IsShownIn depth s d v shown → IsShownIn depth s e v shown
+  shown_in_same None v shown is = shown_same s d e v shown same is
+  shown_in_same (Some deep) v shown is = shown_at_same deep v shown is
 
   pub next_at_same : (deep : ℕ) (from : ℕ → List Variable) (place : ℕ) (given : Option NextLocal) → ShowsNextAt s d deep from place given → ShowsNextAt s e deep from place given
   next_at_same deep from place None shows = shows

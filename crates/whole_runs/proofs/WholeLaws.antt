@@ -1,5 +1,5 @@
 -- What the calls of a whole run leave.
-use Rattle.std.proofs.Common.{◌≡◌, refl, sym, subst, ap, ◌∙◌, arith, ℕ, suc, ◌+◌, ◌-◌, ◌<◌, ◌≤◌, List, [], ◌∷◌, length, Option, Bool, true, false, inr}
+use Rattle.std.proofs.Common.{◌≡◌, refl, sym, subst, ap, ◌∙◌, arith, ℕ, suc, ◌+◌, ◌-◌, ◌<◌, ◌≤◌, List, [], ◌∷◌, length, Option, Some, None, Bool, true, false, inr}
 use Rattle.std.specs.Prelude.{All, filter, slice_index_or, min, drop, take, Ok, Err, Result}
 use Rattle.std.proofs.lemmas.Bool.{true≢false}
 use Rattle.std.proofs.lemmas.List.Elements.{All-filter, All-nil, All-same, filter_passes}
@@ -14,14 +14,16 @@ use Rattle.debug_traits.specs.declared.machine.StepEnd.{StepEnd}
 use Rattle.debug_traits.specs.declared.machine.StepEnd.TheVariants as end
 use Rattle.debug_traits.specs.declared.machine.Shown.{Shown}
 use Rattle.debug_traits.specs.Beginnings.{StandsAt, with_events}
-use Rattle.debug_traits.specs.Machines.{IsPart, IsShown, Pokes, Steps, Undoes, UndoesWords}
+use Rattle.debug_traits.specs.Machines.{IsPart, Steps, Undoes, UndoesWords}
 use Rattle.whole_runs.specs.declared.notes.NotedPoke.{NotedPoke}
 use Rattle.whole_runs.specs.declared.copies.CopiedMoment.{CopiedMoment}
 use Rattle.whole_runs.specs.Notes.{CanGo, CanPoke, HaveGone, IsGoing, IsWithin, Noted, kept_to, last_steps, noted, one_poke, one_step, poke_of, steps_first, steps_on}
+use Rattle.whole_runs.specs.Pokes.{IsShownIn, PokesIn, poked_in}
 use Rattle.whole_runs.specs.Runs.{AreWithin, CanHaveAll, IsCopied, StandsWhole, Whole}
 use Rattle.whole_runs.specs.Copies.{MayKeep, is_within}
-use Rattle.whole_runs.proofs.DoneAgain.{gone_left, same_part, steps_left}
+use Rattle.whole_runs.proofs.DoneAgain.{gone_left, same_part_in, stands_poked, steps_left}
 use Rattle.whole_runs.proofs.Places.{all_kept, copy_poked, copy_stepped, within_more, within_of, within_push}
+use Rattle.whole_runs.proofs.SeenSame.{shown_in_same}
 use Rattle.whole_runs.proofs.TakenBack.{Left, are_more, noted_last, shown_same}
 
 -- ---- notes
@@ -48,6 +50,17 @@ one_less old (Err none) new n all more is undoes = let e = ap length undoes.0 in
   where
     never : (k n all : ℕ) → n < all → k + n ≡ all → k ≡ 0 → ⊥
     never k n all more is none = omega arith
+
+-- ---- pokes
+
+-- where one machine was poked, so is another that stands where it does
+also_poked : {M N : Type 0} (stands : M → Setting → Debugger → Type 0) (other : N → Setting → Debugger → Type 0) (depth : Option ℕ) (s : Setting) (d e : Debugger) → d.events ≡ e.events
+    → (v : Variable) (shown : Shown) (at : Option ℕ) (word : ℕ) (new : M) (next : N) → PokesIn depth stands s d v shown at word new
+    → other next s (moved (Poke (poked_in depth (poked_by v at)) word) e) → PokesIn depth other s e v shown at word next
+also_poked stands other None s d e same v shown at word new next pokes there =
+    let event = Poke (poked_by v at) word in
+    (there, shown_same s (moved event d) (moved event e) v shown (ap (λ events. event ∷ events) same) pokes.1)
+also_poked stands other (Some deep) s d e same v shown at word new next pokes there = there
 
 module _ {M : Type 0} (stands : M → Setting → Debugger → Type 0) (copies : M → List ℕ → Setting → Debugger → Type 0) where
   abbrev pub Stays : M → M → Type 0
@@ -112,37 +125,37 @@ module _ {M : Type 0} (stands : M → Setting → Debugger → Type 0) (copies :
         (over, still (kept, history, same))
 
     -- ---- pokes
-    pub poked : run.is_stale ≡ false → (v : Variable) (shown : Shown) (at : Option ℕ) (word : ℕ) → IsShown s d v shown → IsPart at shown
-        → ((s : Setting) (d : Debugger) (v : Variable) → stands run.inner s d → IsShown s d v shown → IsPart at shown → Pokes stands s d v shown at word new)
-        → Pokes (StandsWhole stands copies) s d v shown at word (record run { inner = new; notes = one_poke shown at word run.notes; moves = moves })
-    poked fresh_copies v shown at word is part pokes =
+    pub poked : run.is_stale ≡ false → (depth : Option ℕ) (v : Variable) (shown : Shown) (at : Option ℕ) (word : ℕ) → IsShownIn depth s d v shown → IsPart at shown
+        → ((s : Setting) (d : Debugger) (v : Variable) → stands run.inner s d → IsShownIn depth s d v shown → IsPart at shown → PokesIn depth stands s d v shown at word new)
+        → PokesIn depth (StandsWhole stands copies) s d v shown at word (record run { inner = new; notes = one_poke depth shown at word run.notes; moves = moves })
+    poked fresh_copies depth v shown at word is part pokes =
         let (kept, history, there) = whole.there in
         let e = with_events d.events kept history d in
-        let note : NotedPoke = record { steps = run.notes.steps; shown = shown; at = at; word = word } in
-        let event = Poke (poked_by v at) word in
+        let note : NotedPoke = record { steps = run.notes.steps; depth = depth; shown = shown; at = at; word = word } in
+        let event = Poke (poked_in depth (poked_by v at)) word in
         let before = steps_on run.notes.steps (noted whole.older run.notes.pokes) in
-        let (after, then_shown) = pokes s e v there (shown_same s d e v shown refl is) part in
-        let same : event ≡ poke_of note = ap (λ what. Poke what word) (same_part stands v shown at is.id is.is_array) in
+        let after = pokes s e v there (shown_in_same s d e refl depth v shown is) part in
+        let same : event ≡ poke_of note = ap (λ what. Poke what word) (same_part_in stands depth s d v shown at is) in
         let can : CanPoke s before note = record {
           variable = v;
-          shown = shown_same s d (with_events before 0 0 (fresh 0)) v shown whole.events is;
+          shown = shown_in_same s d (with_events before 0 0 (fresh 0)) whole.events depth v shown is;
           part = part;
         } in
-        let stayed = copied_stays run.inner new s d whole.older run.notes.pokes run.notes.steps run.copies stays whole.copied in (
-          record {
-            older = whole.older;
-            there = (min (suc kept) history, history, after);
-            events = ap (λ events. event ∷ events) whole.events ∙ ap (λ event. event ∷ before) same ∙ sym (noted_last whole.older run.notes.pokes note);
-            are_noted = are_more s whole.older run.notes.pokes note whole.are_noted whole.have_gone can;
-            have_gone = tt;
-            begins = stays run.start s (with_events whole.older 0 0 d) whole.begins;
-            copied = λ k e inside. copy_poked copies new s d whole.older run.notes.pokes note (slice_index_or run.copies k e) (whole.within fresh_copies k e inside) (stayed k e inside);
-            within = λ f k e inside. within_push run.notes.pokes note run.notes.steps (slice_index_or run.copies k e).pokes (slice_index_or run.copies k e).steps (whole.within fresh_copies k e inside);
-            kept = ap (λ n. min (suc n) d.history) whole.kept ∙ ap (λ n. min (suc run.notes.kept) n) whole.history;
-            history = whole.history;
-          },
-          shown_same s (moved event e) (moved event d) v shown refl then_shown,
-        )
+        let stayed = copied_stays run.inner new s d whole.older run.notes.pokes run.notes.steps run.copies stays whole.copied in
+        let next : Whole M = record run { inner = new; notes = one_poke depth shown at word run.notes; moves = moves } in
+        let there_next : StandsWhole stands copies next s (moved event d) = record {
+          older = whole.older;
+          there = (min (suc kept) history, history, stands_poked stands depth s e v shown at word new after);
+          events = ap (λ events. event ∷ events) whole.events ∙ ap (λ event. event ∷ before) same ∙ sym (noted_last whole.older run.notes.pokes note);
+          are_noted = are_more s whole.older run.notes.pokes note whole.are_noted whole.have_gone can;
+          have_gone = tt;
+          begins = stays run.start s (with_events whole.older 0 0 d) whole.begins;
+          copied = λ k e inside. copy_poked copies new s d whole.older run.notes.pokes note (slice_index_or run.copies k e) (whole.within fresh_copies k e inside) (stayed k e inside);
+          within = λ f k e inside. within_push run.notes.pokes note run.notes.steps (slice_index_or run.copies k e).pokes (slice_index_or run.copies k e).steps (whole.within fresh_copies k e inside);
+          kept = ap (λ n. min (suc n) d.history) whole.kept ∙ ap (λ n. min (suc run.notes.kept) n) whole.history;
+          history = whole.history;
+        } in
+        also_poked stands (StandsWhole stands copies) depth s e d refl v shown at word new next after there_next
 
     -- ---- events that are taken back
     pub taken : (notes : Noted) (kind : Undone) → Left s whole.older d.events kind notes.pokes notes.steps run.notes.kept notes.kept → notes.limit ≡ run.notes.limit

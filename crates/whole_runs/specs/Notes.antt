@@ -9,8 +9,9 @@ use Rattle.gang_model.specs.Debugger.Events.{Event, Step, Poke, Poked, WholeOf, 
 use Rattle.gang_model.specs.Debugger.Debugger.{Setting, fresh}
 use Rattle.debug_traits.specs.declared.machine.Shown.{Shown}
 use Rattle.debug_traits.specs.Beginnings.{with_events}
-use Rattle.debug_traits.specs.Machines.{IsPart, IsShown}
+use Rattle.debug_traits.specs.Machines.{IsPart}
 use Rattle.whole_runs.specs.declared.notes.NotedPoke.{NotedPoke}
+use Rattle.whole_runs.specs.Pokes.{IsShownIn, poked_in}
 
 -- ---- events
 
@@ -24,8 +25,9 @@ abbrev pub poked_at : Shown → Option ℕ → Poked
 poked_at shown None = WholeOf shown.id
 poked_at shown (Some k) = if shown.is_array then ElementAt shown.id k else LaneOf shown.id k
 
+-- the event that a note spells, in the frame at its depth or in the top one
 abbrev pub poke_of : NotedPoke → Event
-poke_of note = Poke (poked_at note.shown note.at) note.word
+poke_of note = Poke (poked_in note.depth (poked_at note.shown note.at)) note.word
 
 -- the pokes with the steps before each of them, after older events
 abbrev pub noted : List Event → List NotedPoke → List Event
@@ -52,10 +54,10 @@ abbrev pub HaveGone : Setting → ℕ → List Event → Type 0
 HaveGone s zero older = Unit {0}
 HaveGone s (suc n) older = HaveGone s n older × CanGo s (steps_on n older)
 
--- a part of a variable that is shown so after these events
+-- a part of a variable that is shown so in the note's frame after these events
 pub record CanPoke (s : Setting) (events : List Event) (note : NotedPoke) : Type 0 where
   pub variable : Variable
-  pub shown : IsShown s (with_events events 0 0 (fresh 0)) variable note.shown
+  pub shown : IsShownIn note.depth s (with_events events 0 0 (fresh 0)) variable note.shown
   pub part : IsPart note.at note.shown
 
 -- the pokes and the steps before each of them happened, after older events
@@ -100,10 +102,10 @@ pub record Noted : Type 0 where
 abbrev pub one_step : Noted → Noted
 one_step n = record n { steps = suc n.steps; kept = min (suc n.kept) n.limit }
 
--- one poke more, after all steps
-abbrev pub one_poke : Shown → Option ℕ → (word : ℕ) → Noted → Noted
-one_poke shown at word n = record n {
-  pokes = n.pokes ++ record { steps = n.steps; shown = shown; at = at; word = word } ∷ [];
+-- one poke more, after all steps, in the frame at a depth or in the top one
+abbrev pub one_poke : (depth : Option ℕ) → Shown → Option ℕ → (word : ℕ) → Noted → Noted
+one_poke depth shown at word n = record n {
+  pokes = n.pokes ++ record { steps = n.steps; depth = depth; shown = shown; at = at; word = word } ∷ [];
   steps = 0;
   kept = min (suc n.kept) n.limit;
 }

@@ -8,6 +8,7 @@ mod framed;
 mod kept_copies;
 mod machine;
 mod notes;
+mod pokes;
 mod redoing;
 mod whole_run;
 

@@ -15,12 +15,12 @@ use crate::copies_over::CopiesOver;
 use crate::redoing::take_last_back;
 use crate::whole_run::WholeRun;
 use debug_traits::{
-    NamedVariable, NextLocal, PokesSurely, Position, RecordedMachine, Shown, StepEnd,
+    FramedMachine, NamedVariable, NextLocal, PokesSurely, Position, RecordedMachine, Shown, StepEnd,
 };
 use std::alloc::AllocError;
 use undo_log::{NoHistory, Undone};
 
-impl<M: CopiesOver + PokesSurely> RecordedMachine for WholeRun<M> {
+impl<M: CopiesOver + PokesSurely + FramedMachine> RecordedMachine for WholeRun<M> {
     ghost stands = { StandsWhole M.stands M.copies };
 
     ghost history = { history_of };
@@ -61,7 +61,7 @@ impl<M: CopiesOver + PokesSurely> RecordedMachine for WholeRun<M> {
 
     fn poke(&mut self, shown: Shown, at: Option<u32>, word: u64) -> Result<(), AllocError> {
         self.make_ready();
-        self.set_noted(shown, at, word)
+        self.set_noted(None, shown, at, word)
     }
 
     fn kept(&self) -> usize {

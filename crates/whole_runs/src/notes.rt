@@ -7,10 +7,12 @@ use debug_traits::Shown;
 use std::alloc::{AllocError, Global};
 use undo_log::{NoHistory, Undone};
 
-/// A value that was set, and how many steps were made since the one that was set before it, or since the start.
+/// A value that was set, in the frame at a depth or in the top one where no depth is given, and how many steps were made since the one
+/// that was set before it, or since the start.
 #[derive(Clone, Copy, Debug, PartialEq, Eq)]
 pub struct NotedPoke {
     pub steps: u64,
+    pub depth: Option<usize>,
     pub shown: Shown,
     pub at: Option<u32>,
     pub word: u64,
@@ -88,25 +90,27 @@ impl Notes {
         self.keep_one();
     }
 
-    /// Notes a poke.
+    /// Notes a poke in the frame at a depth, or in the top one.
     ///
     /// # Errors
     ///
     /// Out of memory, and then nothing changes.
     pub(crate) fn note_poke(
         &mut self,
+        depth: Option<usize>,
         shown: Shown,
         at: Option<u32>,
         word: u64,
     ) -> Result<(), AllocError>
         ensures limit { self.new.limit ≡ self.old.limit }
         ensures steps { OnOk result (self.new.steps ≡ 0) }
-        ensures pokes { OnOk result (self.new.pokes.items ≡ self.old.pokes.items ++ record { steps = self.old.steps; shown = shown; at = at; word = word } ∷ []) }
+        ensures pokes { OnOk result (self.new.pokes.items ≡ self.old.pokes.items ++ record { steps = self.old.steps; depth = depth; shown = shown; at = at; word = word } ∷ []) }
         ensures kept { OnOk result (self.new.kept ≡ min (suc self.old.kept) self.old.limit) }
         ensures err { OnErr result ((self.new.pokes.items ≡ self.old.pokes.items) × (self.new.steps ≡ self.old.steps) × (self.new.kept ≡ self.old.kept)) }
     {
         self.pokes.push(NotedPoke {
             steps: self.steps,
+            depth,
             shown,
             at,
             word,

@@ -11,7 +11,8 @@ ghost use Rattle.whole_runs.specs.Runs.{CanHaveAll, IsCopied, KeepsCopies};
 use crate::copies::{CopiedMoment, Copies};
 use crate::copies_over::CopiesOver;
 use crate::notes::{NotedPoke, Notes};
-use debug_traits::{BeginsAgain, PokesSurely};
+use crate::pokes::poke_in;
+use debug_traits::{BeginsAgain, FramedMachine, PokesSurely};
 
 /// Does so many steps again.
 pub(crate) fn redo_steps<M: BeginsAgain>(machine: &mut M, steps: u64)
@@ -35,18 +36,24 @@ pub(crate) fn redo_left<M: BeginsAgain>(machine: &mut M, steps: u64, done: u64)
     redo_steps(machine, steps - done.min(steps));
 }
 
-/// Does a noted poke again.
-pub(crate) fn redo_poke<M: BeginsAgain + PokesSurely>(machine: &mut M, note: &NotedPoke)
+/// Does a noted poke again, in its frame.
+pub(crate) fn redo_poke<M: BeginsAgain + PokesSurely + FramedMachine>(
+    machine: &mut M,
+    note: &NotedPoke,
+)
     ensures redone { (s : Setting) (d : Debugger) (older : List Event) → StandsAt M.stands machine.old s d older → CanPoke s older note.now
         → StandsAt M.stands machine.new s d (poke_of note.now ∷ older) }
     ensures copies { KeepsCopies M.can_have M.copies machine.old machine.new }
     ensures cost { M.moves machine.new ≡ M.moves machine.old }
 {
-    let _ = machine.poke(note.shown, note.at, note.word);
+    let _ = poke_in(machine, note.depth, note.shown, note.at, note.word);
 }
 
 /// Does noted pokes again, each after its steps.
-pub(crate) fn redo_pokes<M: BeginsAgain + PokesSurely>(machine: &mut M, notes: &[NotedPoke])
+pub(crate) fn redo_pokes<M: BeginsAgain + PokesSurely + FramedMachine>(
+    machine: &mut M,
+    notes: &[NotedPoke],
+)
     ensures redone { (s : Setting) (d : Debugger) (older : List Event) → StandsAt M.stands machine.old s d older → AreNoted s older notes.now
         → StandsAt M.stands machine.new s d (noted older notes.now) }
     ensures copies { KeepsCopies M.can_have M.copies machine.old machine.new }
@@ -60,7 +67,7 @@ pub(crate) fn redo_pokes<M: BeginsAgain + PokesSurely>(machine: &mut M, notes: &
 
 /// Does the rest again: these pokes, each after its steps, and the steps after them, where so many of the steps before the first of them
 /// are done.
-pub(crate) fn redo_rest<M: BeginsAgain + PokesSurely>(
+pub(crate) fn redo_rest<M: BeginsAgain + PokesSurely + FramedMachine>(
     machine: &mut M,
     pokes: &[NotedPoke],
     steps: u64,
@@ -83,7 +90,7 @@ pub(crate) fn redo_rest<M: BeginsAgain + PokesSurely>(
 }
 
 /// Begins again at a copy, made after so many of the pokes and so many of the steps after these, and does the rest again.
-pub(crate) fn redo_from<M: BeginsAgain + PokesSurely>(
+pub(crate) fn redo_from<M: BeginsAgain + PokesSurely + FramedMachine>(
     machine: &mut M,
     notes: &Notes,
     pokes: usize,
@@ -105,7 +112,7 @@ pub(crate) fn redo_from<M: BeginsAgain + PokesSurely>(
 }
 
 /// Begins again at the newest of the copies, or at the start where it is of no moment of the run, and does the rest again.
-pub(crate) fn redo_nearest<M: BeginsAgain + PokesSurely>(
+pub(crate) fn redo_nearest<M: BeginsAgain + PokesSurely + FramedMachine>(
     machine: &mut M,
     notes: &Notes,
     start: &[u64],
@@ -136,7 +143,7 @@ fn newest<'a>(copies: &'a Copies, notes: &Notes) -> Option<&'a CopiedMoment>
 }
 
 /// Takes the last event back, which the notes have no more: by the machine, if it can, else all others are done again from the newest copy.
-pub(crate) fn take_last_back<M: BeginsAgain + PokesSurely>(
+pub(crate) fn take_last_back<M: BeginsAgain + PokesSurely + FramedMachine>(
     machine: &mut M,
     notes: &Notes,
     start: &[u64],
@@ -175,7 +182,7 @@ fn take_all_back<M: BeginsAgain>(machine: &mut M)
 }
 
 /// Copies the moment before the last steps over the start, and comes back.
-pub(crate) fn move_start<M: CopiesOver + PokesSurely>(
+pub(crate) fn move_start<M: CopiesOver + PokesSurely + FramedMachine>(
     machine: &mut M,
     notes: &Notes,
     start: &mut [u64],

@@ -3,16 +3,18 @@ ghost use Rattle.std.specs.Prelude.{◌≡◌, ℕ, List, [], ◌^◌, ◌<◌, 
 ghost use Rattle.gang_model.specs.Types.Tree.{Variable};
 ghost use Rattle.gang_model.specs.Debugger.Debugger.{Debugger, Setting};
 ghost use Rattle.debug_traits.specs.Beginnings.{with_events};
-ghost use Rattle.debug_traits.specs.Machines.{IsPart, IsShown, PokesOrNot, PokesWords, Steps, StepsWords};
+ghost use Rattle.debug_traits.specs.Machines.{IsPart, PokesWords, Steps, StepsWords};
 ghost use Rattle.whole_runs.specs.Copies.{most_copies};
 ghost use Rattle.whole_runs.specs.Histories.{history_of};
+ghost use Rattle.whole_runs.specs.Pokes.{IsShownIn, PokesInOrNot};
 ghost use Rattle.whole_runs.specs.Runs.{AsManyCopies, StandsWhole};
 
 use crate::copies::{CopiedMoment, Copies, CopyPlan};
 use crate::copies_over::CopiesOver;
 use crate::notes::Notes;
+use crate::pokes::poke_in;
 use crate::redoing::move_start;
-use debug_traits::{BeginsAgain, Moves, PokesSurely, Shown, StepEnd};
+use debug_traits::{BeginsAgain, FramedMachine, Moves, PokesSurely, Shown, StepEnd};
 use std::alloc::{AllocError, Global};
 use std::marker::Model;
 
@@ -154,7 +156,7 @@ impl<M: BeginsAgain> WholeRun<M> {
     }
 }
 
-impl<M: CopiesOver + PokesSurely> WholeRun<M> {
+impl<M: CopiesOver + PokesSurely + FramedMachine> WholeRun<M> {
     /// No copy is of a moment after the last event, and another step can be counted.
     // Each step calls it, and nearly always there is nothing to do.
     #[inline(always)]
@@ -214,26 +216,27 @@ impl<M: CopiesOver + PokesSurely> WholeRun<M> {
         self.copies.clear();
     }
 
-    /// Sets a value and notes it.
+    /// Sets a value in the frame at a depth, or in the top one where no depth is given, and notes it.
     ///
     /// # Errors
     ///
     /// Out of memory for the note, and then nothing changes.
     pub(crate) fn set_noted(
         &mut self,
+        depth: Option<usize>,
         shown: Shown,
         at: Option<u32>,
         word: u64,
     ) -> Result<(), AllocError>
         requires { self.old.is_stale ≡ false }
-        ensures poke { (s : Setting) (d : Debugger) (v : Variable) → StandsWhole M.stands M.copies self.old s d → IsShown s d v shown → IsPart at shown
-            → PokesOrNot (StandsWhole M.stands M.copies) s d v shown at word result self.new }
+        ensures poke { (s : Setting) (d : Debugger) (v : Variable) → StandsWhole M.stands M.copies self.old s d → IsShownIn depth s d v shown → IsPart at shown
+            → PokesInOrNot depth (StandsWhole M.stands M.copies) s d v shown at word result self.new }
         ensures words { PokesWords (history_of self.old) result (history_of self.new) }
         ensures most { AsManyCopies self.old self.new }
         ensures moves { self.new.moves ≡ self.old.moves }
     {
-        self.notes.note_poke(shown, at, word)?;
-        let _ = self.inner.poke(shown, at, word);
+        self.notes.note_poke(depth, shown, at, word)?;
+        let _ = poke_in(&mut self.inner, depth, shown, at, word);
         Ok(())
     }
 }

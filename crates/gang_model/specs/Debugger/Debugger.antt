@@ -12,7 +12,8 @@ use Rattle.gang_model.specs.Types.Tree.{Variable, Program}
 use Rattle.gang_model.specs.Running.State.{View, State, view_of, words_in, words_of}
 use Rattle.gang_model.specs.Running.Step.{Stepped, Goes, Fails, Over, step}
 use Rattle.gang_model.specs.Debugger.Positions.{line_now, scope_now}
-use Rattle.gang_model.specs.Debugger.Events.{Event, Step, Poke, Poked, WholeOf, LaneOf, ElementAt, after}
+use Rattle.gang_model.specs.Debugger.Events.{Event, Step, Poke, Poked, WholeOf, LaneOf, ElementAt, InFrame, after}
+use Rattle.gang_model.specs.Debugger.Frames.{scope_at, state_at}
 
 -- a variable by its name, or one of its lanes or elements
 pub record Target : Type 0 where
@@ -48,6 +49,8 @@ pub data Command : Type 0 where
   DoDelete : Option ℕ → Command
   DoInfoBreakpoints DoInfoLocals DoBacktrace DoNothing DoQuit : Command
   DoSetHistory : ℕ → Command
+  -- a value in the frame at a depth: no command line asks for it, but front ends do
+  DoSetIn : (depth : ℕ) → Target → ℤ → Command
 
 -- why a command is refused, in the order of their numbers: C1 to C4, C6 to C12
 pub data Refusal : Type 0 where
@@ -113,6 +116,10 @@ or_else (Some v) other = Some v
 -- the variable of this name in scope, else at file scope
 abbrev pub found : Program → State → List ℕ → Option Variable
 found p state name = or_else (named name (scope_now p state)) (global_named p name)
+
+-- the variable of this name in scope in the frame at a depth, else at file scope
+abbrev pub found_at : Program → (depth : ℕ) → State → List ℕ → Option Variable
+found_at p deep state name = or_else (named name (scope_at p deep state)) (global_named p name)
 
 -- the words of a part of an array
 abbrev pub elements : View → State → List ℕ
@@ -278,11 +285,15 @@ bad_part whole_array None false rate words = None
 bad_part whole_array (Some k) false Uniform words = Some NoSuchName
 bad_part whole_array (Some k) is_array rate words = if nat_lt k words then None else Some OutOfRange
 
--- a command on a target, unless the target is refused: C2, C8
+-- a command on a target, as a state shows it, unless the target is refused: C2, C8
+abbrev pub with_target_in : State → Debugger → (whole_array : Bool) → Target → Option Variable → (Variable → Reply) → Reply
+with_target_in state d whole_array target None go = refused NoSuchName d
+with_target_in state d whole_array target (Some v) go =
+    unless_refused (bad_part whole_array target.at v.is_array v.rate (length (shown_words state v))) d (λ d. go v)
+
+-- the same, as it is shown now
 abbrev pub with_target : Setting → Debugger → (whole_array : Bool) → Target → Option Variable → (Variable → Reply) → Reply
-with_target s d whole_array target None go = refused NoSuchName d
-with_target s d whole_array target (Some v) go =
-    unless_refused (bad_part whole_array target.at v.is_array v.rate (length (shown_words (now s d) v))) d (λ d. go v)
+with_target s d whole_array target v go = with_target_in (now s d) d whole_array target v go
 
 -- shows a target or a whole array: C2, C8
 abbrev pub do_print : Setting → Target → Debugger → Reply
@@ -310,6 +321,13 @@ do_set s target z d = with_target s d false target (found s.program (now s d) ta
     if not (is_value v.type z) then refused OutOfRange d
     else (if v.is_constant then refused Constant d
     else reply (Shows target v) (moved (Poke (poked_by v target.at) (wrapped v.type z)) d)))
+
+-- a poke in the frame at a depth, of which nothing is said: C2, C8 also for a value outside the type, C9
+abbrev pub do_set_in : Setting → (depth : ℕ) → Target → ℤ → Debugger → Reply
+do_set_in s deep target z d = with_target_in (state_at deep (now s d)) d false target (found_at s.program deep (now s d) target.name) (λ v.
+    if not (is_value v.type z) then refused OutOfRange d
+    else (if v.is_constant then refused Constant d
+    else reply Silent (moved (Poke (InFrame deep (poked_by v target.at)) (wrapped v.type z)) d)))
 
 -- the lesser of a number and another one, if there is another
 abbrev pub lesser : ℕ → Option ℕ → ℕ
@@ -382,6 +400,7 @@ do_command s DoBacktrace d = reply ListsFrames d
 do_command s DoNothing d = reply Silent d
 do_command s DoQuit d = reply Silent d
 do_command s (DoSetHistory n) d = do_set_history n d
+do_command s (DoSetIn deep target z) d = do_set_in s deep target z d
 
 -- a command may want for memory: that which raises the history limit, in its range
 abbrev pub MayRunOut : Command → Debugger → Type 0

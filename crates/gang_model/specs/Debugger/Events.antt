@@ -8,12 +8,15 @@ use Rattle.gang_types.specs.declared.places.VarId.TheVariants.{File, Local}
 use Rattle.gang_model.specs.Types.Tree.{Global, Variable, Program, Nothing, Function}
 use Rattle.gang_model.specs.Running.State.{Store, View, State, view_of, words_in, words_of, with_words, with_words_in}
 use Rattle.gang_model.specs.Running.Step.{Passed, new_frame, settle, step, Stepped, Goes, Fails, Over}
+use Rattle.gang_model.specs.Debugger.Frames.{frames_above, state_at, under}
 
--- what a poke sets: a uniform scalar or all lanes of a varying one, one lane of a scalar, or one element of an array
+-- what a poke sets: a uniform scalar or all lanes of a varying one, one lane of a scalar, or one element of an array; of the file or of the top
+-- frame, or of the frame at a depth
 pub data Poked : Type 0 where
   WholeOf : VarId → Poked
   LaneOf : VarId → (lane : ℕ) → Poked
   ElementAt : VarId → (index : ℕ) → Poked
+  InFrame : (depth : ℕ) → Poked → Poked
 
 -- a step, or a poke with its word
 pub data Event : Type 0 where
@@ -89,6 +92,7 @@ abbrev pub poked : Poked → ℕ → State → State
 poked (WholeOf v) word state = with_words_in state v (map (λ old. word) (words_in state v))
 poked (LaneOf v k) word state = with_words_in state v (slice_set (words_in state v) k word)
 poked (ElementAt v k) word state = with_element (view_of state v) k word state
+poked (InFrame deep what) word state = under (frames_above deep state.frames) (poked what word (state_at deep state))
 
 -- the state that a step leads to; where there is no step, the old one
 abbrev pub gone : Stepped → State → State

@@ -12,4 +12,4 @@ returns g c s d v st (named, shown) below =
     ∙ ap (λ text. utf8_lossy v.name ++ text) (c.as_str.ensures.value ∙ c.in_ok-format.ensures.ok) in
     let type = c.in_ok-from_str.ensures.ok ∙ c.type_name.ensures ∙ ap type_name (sym shown.type) in
     let kind = c.part_kind.ensures ∙ ap part_kind (c.waits_at.ensures ∙ ap (λ is_array. waits_at (position_lanes c.args.position) is_array c.args.index) (sym shown.is_array)) in
-    made_same name (c.in_ok-element_text.ensures s d v st shown below) type kind (sym shown.is_constant) (c.is_outer.ensures s d st) refl
+    made_same name (c.in_ok-element_text.ensures s d v st shown below) type kind (sym shown.is_constant) refl refl

@@ -10,4 +10,4 @@ use Rattle.adapter_replies.proofs.parts.ranges.Given as goal
 abbrev pub invariant-loop-range : goal.invariant-loop-range
 invariant-loop-range l =
     (s : Setting) (d : Debugger) (depth : ℕ) (v : Variable) → ShowsNamedAt s d depth v l.named
-    → map variable_view l.told.items ≡ map (told_range l.is_read_only v l.named.shown.count l.place) (range_with_len 0 l.range)
+    → map variable_view l.told.items ≡ map (told_range v l.named.shown.count l.place) (range_with_len 0 l.range)

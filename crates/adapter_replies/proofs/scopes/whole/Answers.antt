@@ -1,4 +1,4 @@
-use Rattle.std.proofs.Common.{◌≡◌, ◌∙◌, sym, ap, if◌then◌else◌}
+use Rattle.std.proofs.Common.{◌≡◌, ◌∙◌, refl, sym, ap, if◌then◌else◌}
 use Rattle.std.specs.Prelude.{◌||◌}
 use Rattle.std.specs.Str.Lossy.{utf8_lossy}
 use Rattle.adapter_replies.specs.declared.places.Place.TheVariants as place
@@ -23,4 +23,4 @@ returns g c s d v st (named, shown) =
       | then-has_parts w ↦ ap place_of w.result-is ∙ ap (λ b. if b then at else place.Nothing) (sym w.if-has_parts.true ∙ same)
       | else-has_parts w ↦ ap place_of w.result-is ∙ ap (λ b. if b then at else place.Nothing) (sym w.if-has_parts.false ∙ same)
     ] in
-    made_same (c.in_ok-from_utf8_lossy.ensures.lossy ∙ ap utf8_lossy named) (c.in_ok-whole_value.ensures s d v st shown) type kind (sym shown.is_constant) (c.is_outer.ensures s d st) parts
+    made_same (c.in_ok-from_utf8_lossy.ensures.lossy ∙ ap utf8_lossy named) (c.in_ok-whole_value.ensures s d v st shown) type kind (sym shown.is_constant) refl parts

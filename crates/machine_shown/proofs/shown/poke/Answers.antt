@@ -1,63 +1,17 @@
+use Rattle.std.proofs.Common.{subst}
+use Rattle.gang_model.specs.Debugger.Debugger.{poked_by}
 use Rattle.machine_words.specs.Words.{regions_in}
-use Rattle.machine_shown.specs.ShownWords.{shown_view}
-use Rattle.machine_shown.proofs.PokedWords.{empty_records, empty_sound, mid_laid, mid_left, mid_room, none_set, part_is_set, poke_records, poke_shown, poke_sound}
-use Rattle.machine_shown.proofs.SeenVariables.{is_found}
-use Rattle.machine_shown.proofs.TopWords.{found_top, none_top}
+use Rattle.frame_steps.specs.Standing.{IsShown}
+use Rattle.machine_shown.proofs.TopWords.{part_top, poked_top, seen_top, set_top}
 use Rattle.machine_shown.proofs.shown.poke.Goals as goal
 
-pub set_part-requires-clause-laid : goal.set_part-requires-clause-laid
-set_part-requires-clause-laid g c =
-    mid_laid g.T.Timeline.history g.T.Timeline.left g.row.W c.args.compiled.now c.args.words.now c.requires.sound c.begin.new.words c.begin.ensures
+pub returns-clause-sets : goal.returns-clause-sets
+returns-clause-sets g c =
+    set_top g.T.Timeline.history g.row.W c.args.compiled.now c.args.words.now c.requires.sound c.args.variable c.args.at c.args.word (regions_in g.T.Timeline.history g.row.W c.poke_at.new.words)
+    c.poke_at.ensures.sets
 
-pub set_part-requires-clause-left : goal.set_part-requires-clause-left
-set_part-requires-clause-left g c =
-    mid_left g.T.Timeline.history g.T.Timeline.left g.row.W c.args.compiled.now c.args.words.now c.requires.sound c.begin.new.words c.begin.ensures
-
-pub set_part-requires-clause-there : goal.set_part-requires-clause-there
-set_part-requires-clause-there g c =
-    mid_room g.T.Timeline.history g.T.Timeline.left g.row.W c.args.compiled.now c.args.words.now c.requires.sound c.begin.new.words c.begin.ensures
-    c.args.variable (shown_view c.in-Some.shown)
-    (found_top g.T.Timeline.history g.row.W c.args.compiled.now c.args.words.now c.requires.sound c.args.variable (shown_view c.in-Some.shown) c.in-Some.ensures.found)
-
-pub returns-in-Some-clause-sound : goal.returns-in-Some-clause-sound
-returns-in-Some-clause-sound g c =
-    poke_sound g.T.Timeline.history g.T.Timeline.left g.row.W c.args.compiled.now c.args.words.now c.requires.sound c.begin.new.words c.begin.ensures
-    c.args.variable (shown_view c.in-Some.shown)
-    (found_top g.T.Timeline.history g.row.W c.args.compiled.now c.args.words.now c.requires.sound c.args.variable (shown_view c.in-Some.shown) c.in-Some.ensures.found) c.args.at c.args.word c.set_part.new.words c.set_part.ensures.sets c.set_part.ensures.keeps
-
-pub returns-in-Some-clause-records : goal.returns-in-Some-clause-records
-returns-in-Some-clause-records g c =
-    poke_records g.T.Timeline.history g.T.Timeline.left g.row.W c.args.compiled.now c.args.words.now c.requires.sound c.begin.new.words c.begin.ensures
-    c.args.variable (shown_view c.in-Some.shown)
-    (found_top g.T.Timeline.history g.row.W c.args.compiled.now c.args.words.now c.requires.sound c.args.variable (shown_view c.in-Some.shown) c.in-Some.ensures.found) c.args.at c.args.word c.set_part.new.words c.set_part.ensures.sets c.set_part.ensures.keeps
-
-pub returns-in-Some-clause-sets : goal.returns-in-Some-clause-sets
-returns-in-Some-clause-sets g c =
-    part_is_set g.T.Timeline.history g.T.Timeline.left g.row.W c.args.compiled.now c.args.words.now c.requires.sound c.begin.new.words c.begin.ensures
-    c.args.variable (shown_view c.in-Some.shown)
-    (found_top g.T.Timeline.history g.row.W c.args.compiled.now c.args.words.now c.requires.sound c.args.variable (shown_view c.in-Some.shown) c.in-Some.ensures.found) c.args.at c.args.word c.set_part.new.words c.set_part.ensures.sets c.set_part.ensures.keeps
-
-pub returns-in-Some-clause-shown : goal.returns-in-Some-clause-shown
-returns-in-Some-clause-shown g c masked v shown seen e part =
-    poke_shown g.T.Timeline.history g.T.Timeline.left g.row.W c.args.compiled.now c.args.words.now c.requires.sound c.begin.new.words c.begin.ensures
-    c.args.variable (shown_view c.in-Some.shown)
-    (found_top g.T.Timeline.history g.row.W c.args.compiled.now c.args.words.now c.requires.sound c.args.variable (shown_view c.in-Some.shown) c.in-Some.ensures.found) c.args.at c.args.word c.set_part.new.words c.set_part.ensures.sets c.set_part.ensures.keeps
-    masked v shown seen e part
-
-pub returns-in_default-clause-sound : goal.returns-in_default-clause-sound
-returns-in_default-clause-sound g c =
-    empty_sound g.T.Timeline.history g.T.Timeline.left g.row.W c.args.compiled.now c.args.words.now c.requires.sound c.begin.new.words c.begin.ensures
-
-pub returns-in_default-clause-records : goal.returns-in_default-clause-records
-returns-in_default-clause-records g c =
-    empty_records g.T.Timeline.history g.T.Timeline.left g.row.W c.args.compiled.now c.args.words.now c.requires.sound c.begin.new.words c.begin.ensures
-
-pub returns-in_default-clause-sets : goal.returns-in_default-clause-sets
-returns-in_default-clause-sets g c =
-    none_set g.T.Timeline.history g.T.Timeline.left g.row.W c.args.compiled.now c.args.words.now c.requires.sound c.begin.new.words c.begin.ensures
-    c.args.variable (none_top g.T.Timeline.history g.row.W c.args.compiled.now c.args.words.now c.requires.sound c.args.variable (c.find_shown-shown.ensures.none c.in_default.is)) c.args.at c.args.word
-
-pub returns-in_default-clause-shown : goal.returns-in_default-clause-shown
-returns-in_default-clause-shown g c masked v shown seen e part =
-    absurd (is_found c.args.compiled.now c.requires.sound.lie.compiled_is.runnable g.row.W (regions_in g.T.Timeline.history g.row.W c.args.words.now) masked shown.shows shown.declared
-    c.args.variable v seen e (none_top g.T.Timeline.history g.row.W c.args.compiled.now c.args.words.now c.requires.sound c.args.variable (c.find_shown-shown.ensures.none c.in_default.is)))
+pub returns-clause-shown : goal.returns-clause-shown
+returns-clause-shown g c masked v shown seen e part =
+    let few = shown.shows.few in
+    subst (λ state. IsShown g.T.Timeline.history g.row.W c.args.compiled.now c.poke_at.new.words (record masked { state = state })) (poked_top masked few (poked_by v c.args.at) c.args.word)
+    (c.poke_at.ensures.shown masked v shown (seen_top masked few c.args.compiled.now v seen) e (part_top masked few v c.args.at part))

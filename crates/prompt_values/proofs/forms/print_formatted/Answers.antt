@@ -19,6 +19,6 @@ returns-in-None g c =
     let a = c.args in
     let written = g.O.AnswerWriter.written in
     let old = a.page.now in
-    let new = c.tell_unknown.new.page in
+    let new = c.tell_unspelled.new.page in
     subst (λ form. WritesForm (λ line. Puts line old.has_failed new.has_failed (written old.writer) (written new.writer)) form (kept a.values.now) None)
     (sym (sym c.form_named.ensures ∙ ap form_option c.in-None.is)) refl

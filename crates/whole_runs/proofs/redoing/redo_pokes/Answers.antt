@@ -11,7 +11,7 @@ use Rattle.whole_runs.proofs.redoing.redo_pokes.Goals as goal
 
 -- any note
 abbrev any : NotedPoke
-any = record { steps = 0; shown = record { id = File 0; value_type = Bool; rate = Uniform; is_array = false; is_constant = false; count = 0 }; at = None; word = 0 }
+any = record { steps = 0; depth = None; shown = record { id = File 0; value_type = Bool; rate = Uniform; is_array = false; is_constant = false; count = 0 }; at = None; word = 0 }
 
 pub loop-note-init : goal.loop-note-init
 loop-note-init g c = record {

@@ -17,8 +17,8 @@ returns-clause-poke g c s d v stands is part =
     let m = c.self.inside in
     let e = c.poke.ensures in
     let here = subst (λ m. Stands m s d) (sym c.self.view_is) stands in (
-      stands_poked g.T.Timeline.history g.row.W m.entry m.compiled m.lines.items m.words c.poke.new.words c.self.invariant s d here v c.args.shown c.args.at c.args.word is part e.records e.sound e.shown,
-      shown_poked g.T.Timeline.history g.row.W m.entry m.compiled m.lines.items m.words c.poke.new.words c.self.invariant s d here v c.args.shown c.args.at c.args.word is part e.records e.sound e.shown,
+      stands_poked g.T.Timeline.history g.row.W m.entry m.compiled m.lines.items m.words c.poke.new.words c.self.invariant s d here e.records v c.args.shown c.args.at c.args.word part is e.shown,
+      shown_poked g.T.Timeline.history g.row.W m.entry m.compiled m.lines.items m.words c.poke.new.words c.self.invariant s d here e.records v c.args.shown c.args.at c.args.word part is,
     )
 
 pub poke-requires : goal.poke-requires
