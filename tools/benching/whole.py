@@ -34,6 +34,11 @@ CONDITION_TURNS, CONDITION_LINE = 100_000, 6
 CONDITION_STEPS = 10 * CONDITION_TURNS + 4
 CONDITION_TEXT = f"export void go() {{\nint i = 0;\nint x = 0;\nwhile (i < {CONDITION_TURNS}) {{\nx += i;\n" + "x ^= 5;\nx += 7;\n" * 3 + "x -= 3;\ni += 1;\n}\n}\n"
 CONDITIONAL, GOES_ON = [f"break {CONDITION_LINE} if i < 0"], ["continue"]
+# A loop of five steps a turn in which neither what a watch of a variable shows changes, nor what one of an expression of it does.
+STILL_TURNS = 40_000
+STILL_STEPS = works.steps_of_loop(STILL_TURNS) + 1
+STILL_TEXT = works.loop(STILL_TURNS).replace("int i = 0;\n", "int still = 1;\nint i = 0;\n")
+OF_VARIABLE, OF_EXPRESSION = "watch still", "watch still * 3 + programIndex"
 # A run to a fault, which the value of a variable near its start leads to.
 SPOILT_NAME, BACK_TO_CAUSE = "spoilt.ispc", "last divisor"
 (_, FAULT_STEP), (_, CAUSE_STEP) = FAULT, SPOILS
@@ -278,6 +283,22 @@ def condition(program, folder):
     yield Figure((with_it - plain) / CONDITION_TURNS / (plain / CONDITION_STEPS), "times a step, for a condition", 10)
 
 
+def with_watch(program, folder, watch):
+    """The seconds of a run with a watch that never stops it."""
+    name = "still.ispc"
+    pathlib.Path(folder, name).write_text(STILL_TEXT)
+    with begun(debugged(program, name), folder) as desk:
+        desk.done(["step", watch], b"watch 1: ")
+        return desk.seconds(["continue"], b"has ended")
+
+
+def watched(program, folder):
+    """What a watch of an expression takes beside one of a variable."""
+    of_variable, of_expression = least((with_watch(program, folder, OF_VARIABLE), with_watch(program, folder, OF_EXPRESSION)) for _ in range(ROUNDS))
+    yield Figure(of_variable, f"seconds for continue over {STILL_STEPS:,} steps with a watch of a variable of a function", 1)
+    yield Figure(of_expression / of_variable, f"times these with `{OF_EXPRESSION}`")
+
+
 def told(program, script):
     """The figures of the prompt's program, beside the program for scripts where that is there; and why some are not there."""
     with tempfile.TemporaryDirectory(prefix="bench-whole-") as folder:
@@ -285,7 +306,7 @@ def told(program, script):
         parts = [back(program, folder), *([beside_plain(program, script, folder)] if script else [])]
         parts += [counted_beside_plain(program, script, folder)] if script and counted.is_there() else []
         parts += [counted_profiles(program, folder)] if counted.is_there() else []
-        for part in (*parts, to_what_spoiled(program, folder), copies(program, folder), profile(program, folder), by_access(program, folder), condition(program, folder)):
+        for part in (*parts, to_what_spoiled(program, folder), copies(program, folder), profile(program, folder), by_access(program, folder), condition(program, folder), watched(program, folder)):
             try:
                 yield from part
             except (NotRun, OSError, subprocess.CalledProcessError) as why:

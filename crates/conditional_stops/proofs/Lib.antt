@@ -7,3 +7,5 @@ mod WorkedRows
 pub mod Steps
 pub mod Changed
 pub mod Sighted
+mod Watched
+mod Zipped

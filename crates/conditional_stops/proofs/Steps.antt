@@ -1,5 +1,5 @@
 -- Single steps, made one after another.
-use Rattle.std.proofs.Common.{◌≡◌, refl, sym, subst, ap, ℕ, zero, suc, ◌<◌, false, List, inl, inr}
+use Rattle.std.proofs.Common.{◌≡◌, refl, sym, subst, ap, ℕ, zero, suc, ◌<◌, false, List, inl, inr, arith}
 use Rattle.std.specs.Prelude.{true, Option, Some, None, option_map, replicate}
 use Rattle.gang_model.specs.Debugger.Debugger as model
 use Rattle.gang_model.specs.Debugger.Debugger.{Debugger, Moves, Reply, Setting, backward, backward_refusal, do_command, forward, forward_refusal, kept_steps, now}
@@ -7,7 +7,7 @@ use Rattle.debug_answers.specs.declared.answer.Answer.{Answer}
 use Rattle.debug_answers.specs.declared.answer.Answer.TheVariants as answer
 use Rattle.debug_answers.specs.Meanings.{Means}
 use Rattle.debug_session.specs.declared.session.Session.{Session}
-use Rattle.debug_session.specs.Sessions.{RepliesOn, StandsFor}
+use Rattle.debug_session.specs.Sessions.{RepliesOn, RepliesTo, StandsFor}
 use Rattle.command_lists.specs.Lists.{HasDone, Leads}
 use Rattle.conditional_stops.specs.declared.going.Direction.{Direction}
 use Rattle.conditional_stops.specs.declared.going.Direction.TheVariants as direction
@@ -17,7 +17,7 @@ use Rattle.conditional_stops.specs.declared.watches.Watch.{Watch}
 use Rattle.conditional_stops.specs.Going.{times}
 use Rattle.conditional_stops.specs.Reasons.{Asks}
 use Rattle.conditional_stops.specs.Tables.{Table}
-use Rattle.conditional_stops.specs.Walking.{EndsHere, EndsStepBy, EndsWalk, PassesStep, PassesSteps, StepsOnce, is_here, last_answer, reasons_on, step_of, tells_here}
+use Rattle.conditional_stops.specs.Walking.{EndsHere, EndsStepBy, EndsWalk, PassesStep, PassesSteps, StepsOnce, WalksOn, end_without_memory, is_here, last_answer, reasons_on, step_of, tells_here}
 use Rattle.conditional_stops.proofs.Passing.{forward_stops, backward_stops, refused_stops}
 
 -- ---- the reply
@@ -96,6 +96,21 @@ module _ {M : Type 0} (stands : M → Setting → Debugger → Type 0) (s : Sett
   all_stepped passed d at table before new end.MostPassed session passes by = absurd by.1
   all_stepped passed d at table before new end.NoMemory session passes by =
       record { after = at; leads = steps_lead s way watches passed d at table before passes; there = by.0 }
+
+  -- a move for which nothing could be noted
+  pub nothing_noted : (most : ℕ) (d : Debugger) (table : Table) (session : Session M) → StandsFor stands session s d
+      → WalksOn stands s way watches most d table (record { end = end_without_memory most; passed = 0 }) session table
+  nothing_noted zero d table session there =
+      record { at = d; before = table; passes = (refl, refl); ends = (refl, there, refl); done = record { after = d; leads = refl; there = there } }
+  nothing_noted (suc n) d table session there =
+      record { at = d; before = table; passes = (refl, refl); ends = (omega arith, (there, refl)); done = record { after = d; leads = refl; there = there } }
+
+  -- where a session stands behind a step, and what its answer means there
+  pub stepped : (may_want : Type 0) (d : Debugger) (given : Answer) (new : Session M) → RepliesTo may_want stands s (step_of way) d given new
+      → StandsFor stands new s (do_command s (step_of way) d).next × Means s (do_command s (step_of way) d).next given (do_command s (step_of way) d).answer
+  stepped may_want d given new replies =
+      let is : replies.reply ≡ do_command s (step_of way) d = sure_step may_want s way d replies.reply replies.is_reply in
+      (subst (λ (r : Reply). StandsFor stands new s r.next) is replies.replied.there, subst (λ (r : Reply). Means s r.next given r.answer) is replies.replied.means)
 
   -- a step that was made, and what ends the move behind it
   pub step_ended : (d : Debugger) (table new : Table) (ended : Option MoveEnd) (session : Session M) → StandsFor stands session s (do_command s (step_of way) d).next

@@ -1,4 +1,5 @@
 pub mod Going
+pub mod Noted
 pub mod Reasons
 pub mod SightViews
 pub mod Sights

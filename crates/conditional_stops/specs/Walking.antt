@@ -101,6 +101,11 @@ abbrev pub StepsOnce : {M : Type 0} → (M → Setting → Debugger → Type 0) 
 StepsOnce stands s way watches d table None session new = StandsFor stands session s (do_command s (step_of way) d).next × PassesStep s way watches d table new
 StepsOnce stands s way watches d table (Some ended) session new = EndsStepBy stands s way watches d table ended session new
 
+-- what ends a move for which there was no memory to note what is watched: no step was to be made, or there was no memory
+abbrev pub end_without_memory : (most : ℕ) → MoveEnd
+end_without_memory zero = end.MostPassed
+end_without_memory (suc n) = end.NoMemory
+
 -- the same of a move: so many steps as can be were made, or fewer, and then the move was ended
 abbrev pub EndsWalk : {M : Type 0} → (M → Setting → Debugger → Type 0) → Setting → Direction → List Watch → (most passed : ℕ) → (at : Debugger) → Table → MoveEnd → Session M → (new : Table) → Type 0
 EndsWalk stands s way watches most passed at table end.MostPassed session new = (passed ≡ most) × StandsFor stands session s at × (new ≡ table)

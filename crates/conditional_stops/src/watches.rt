@@ -1,12 +1,14 @@
 //! Watches of what frames show, of variables and of expressions: what they show is noted, and compared.
 ghost use Rattle.std.specs.Prelude.{◌≡◌, ◌∷◌, List, drop, map, Some, option_map, OnOk, IfOk};
+ghost use Rattle.gang_model.specs.Types.Tree.{Program};
 ghost use Rattle.gang_model.specs.Debugger.Debugger.{Debugger, Setting};
 ghost use Rattle.debug_session.specs.Sessions.{bare};
+ghost use Rattle.conditional_stops.specs.Noted.{HasCodes, HaveCodes};
 ghost use Rattle.conditional_stops.specs.Watches as spec;
 ghost use Rattle.conditional_stops.specs.SightViews.{seen_view, sights_view};
 
 use crate::sights::{FrameWatch, Sight, differ, sight, words_of};
-use expression_watches::{ExpressionWatch, LaneSight, expression_sight, lanes_differ};
+use expression_watches::{ExpressionWatch, KeptCodes, LaneSight, kept_sight, lanes_differ};
 use frame_expressions::ExpressionMachine;
 use std::alloc::{AllocError, Global};
 
@@ -62,7 +64,22 @@ pub(crate) enum Sighted {
 /// What each watch showed, in their order.
 pub(crate) type Sights = Vec<Sighted>;
 
-/// Notes what each watch shows.
+/// The codes of watches of which nothing was seen yet.
+///
+/// # Errors
+///
+/// Out of memory.
+pub(crate) fn no_codes(alloc: Global, watches: &[Watch]) -> Result<Vec<KeptCodes>, AllocError>
+    ensures { (p : Program) → IfOk result (λ codes. HaveCodes p watches.now codes.items) }
+{
+    let mut codes = Vec::new(alloc);
+    for _watch in watches {
+        codes.push(KeptCodes::new(alloc))?;
+    }
+    Ok(codes)
+}
+
+/// Notes what each watch shows, by the codes of their texts.
 ///
 /// # Errors
 ///
@@ -71,13 +88,15 @@ pub(crate) fn note_sights<M: ExpressionMachine>(
     alloc: Global,
     machine: &M,
     watches: &[Watch],
+    codes: &mut Vec<KeptCodes>,
     sights: &mut Sights,
 ) -> Result<(), AllocError>
-    ensures { (s : Setting) (d : Debugger) → M.stands machine.now s (bare d) → OnOk result (sights_view sights.new.items ≡ map (spec.seen s d) watches.now) }
+    ensures { (s : Setting) (d : Debugger) → M.stands machine.now s (bare d) → HaveCodes s.program watches.now codes.old.items
+        → OnOk result ((sights_view sights.new.items ≡ map (spec.seen s d) watches.now) × HaveCodes s.program watches.now codes.new.items) }
 {
     sights.clear();
-    for watch in watches {
-        let shown = shown_by(alloc, machine, watch)?;
+    for place in 0..watches.len().min(codes.len()) {
+        let shown = shown_by(alloc, machine, &watches[place], &mut codes[place])?;
         sights.push(shown)?;
     }
     Ok(())
@@ -92,13 +111,16 @@ fn shown_by<M: ExpressionMachine>(
     alloc: Global,
     machine: &M,
     watch: &Watch,
+    codes: &mut KeptCodes,
 ) -> Result<Sighted, AllocError>
-    ensures { (s : Setting) (d : Debugger) → M.stands machine.now s (bare d) → IfOk result (λ shown. seen_view shown ≡ spec.seen s d watch.now) }
+    ensures shown { (s : Setting) (d : Debugger) → M.stands machine.now s (bare d) → HasCodes s.program watch.now codes.old
+        → IfOk result (λ shown. seen_view shown ≡ spec.seen s d watch.now) }
+    ensures codes { (s : Setting) (d : Debugger) → M.stands machine.now s (bare d) → HasCodes s.program watch.now codes.old → HasCodes s.program watch.now codes.new }
 {
     match watch {
         Watch::Variable(watch) => Ok(Sighted::Words(sight(machine, watch))),
         Watch::Expression(watch) => {
-            let shown = expression_sight(alloc, watch, machine)?;
+            let shown = kept_sight(alloc, watch, codes, machine)?;
             Ok(Sighted::InLanes(shown))
         }
     }

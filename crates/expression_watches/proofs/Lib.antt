@@ -1,4 +1,5 @@
 mod FewerLanes
+mod Keeping
 mod LaneLists
 mod Rows
 mod SetTexts

@@ -5,6 +5,8 @@ use Rattle.gang_types.specs.declared.types.IntType.TheVariants as t
 use Rattle.gang_types.specs.Values.{binary_of, residue, value_in, value_of, word_of, wrapped}
 use Rattle.gang_model.specs.Running.State.{State}
 use Rattle.gang_model.specs.Types.Tree.{Binary, Number, ProgramIndex}
+use Rattle.expression_watches.specs.declared.codes.KeptCode.TheVariants as kept
+use Rattle.expression_watches.specs.Codes.{kept_at}
 use Rattle.expression_watches.specs.LaneSights.{lane_words, lanes_differ, shown_in, without_lane}
 
 -- ---- lanes
@@ -39,3 +41,13 @@ shown_again = refl
 
 none_before : lanes_differ [] (Some 2 ∷ Some 3 ∷ []) ≡ false
 none_before = refl
+
+-- ---- codes that are kept
+
+-- for step 1, where the text has no value
+for_a_step : kept_at (kept.Unread ∷ kept.Read None ∷ []) 1 ≡ kept.Read None
+for_a_step = refl
+
+-- neither for the step before it nor for one past the last
+for_no_other : (kept_at (kept.Unread ∷ kept.Read None ∷ []) 0 ≡ kept.Unread) × (kept_at (kept.Unread ∷ kept.Read None ∷ []) 2 ≡ kept.Unread)
+for_no_other = (refl, refl)

@@ -1,3 +1,4 @@
+pub mod Codes
 pub mod LaneSights
 pub mod Meanings
 pub mod Names

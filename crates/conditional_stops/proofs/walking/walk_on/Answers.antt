@@ -1,62 +1,19 @@
-use Rattle.std.proofs.Common.{◌≡◌, ◌+◌, suc, refl, subst, arith}
-use Rattle.gang_model.specs.Debugger.Debugger.{do_command}
+use Rattle.std.proofs.Common.{sym, subst}
+use Rattle.conditional_stops.specs.declared.going.MoveEnd.{MoveEnd}
 use Rattle.conditional_stops.specs.Views.{table_of}
-use Rattle.conditional_stops.specs.Walking.{PassesSteps, StepsOnce, step_of}
-use Rattle.conditional_stops.proofs.Steps.{all_stepped, ends_walk, steps_lead, steps_on}
+use Rattle.conditional_stops.specs.Walking.{WalksOn}
+use Rattle.conditional_stops.proofs.Steps.{nothing_noted}
 use Rattle.conditional_stops.proofs.walking.walk_on.Goals as goal
 
-pub returns-in-Some : goal.returns-in-Some
-returns-in-Some g c s d st =
+pub returns-in-Ok : goal.returns-in-Ok
+returns-in-Ok g c s d st = c.walk.ensures s d st (c.in-Ok.ensures s d st)
+
+pub returns-in-Err : goal.returns-in-Err
+returns-in-Err g c s d st =
     let stands = g.M.RecordedMachine.stands in
     let way = c.args.direction in
     let watches = c.args.watches.now in
-    let passed = c.loop-passed.passed in
     let table = table_of c.args.conditions.now in
-    let before = table_of c.loop-passed.conditions in
-    let new = table_of c.step_once.new.conditions in
-    let session = c.step_once.new.session in
-    let (at, there, passes) = c.loop-passed.invariant s d st in
-    let by = c.in-Some.ensures s at there in
-    record {
-      at = at;
-      before = before;
-      passes = passes;
-      ends = ends_walk stands s way watches c.args.most passed at before new c.in-Some.end session c.loop-passed-test.true by;
-      done = all_stepped stands s way watches passed d at table before new c.in-Some.end session passes by;
-    }
-
-pub loop-passed-init : goal.loop-passed-init
-loop-passed-init g c s d st = (d, st, (refl, refl))
-
-pub loop-passed-preserved : goal.loop-passed-preserved
-loop-passed-preserved g c s d st =
-    let stands = g.M.RecordedMachine.stands in
-    let way = c.args.direction in
-    let watches = c.args.watches.now in
-    let passed = c.loop-passed.passed in
-    let table = table_of c.args.conditions.now in
-    let before = table_of c.loop-passed.conditions in
-    let new = table_of c.step_once.new.conditions in
-    let (at, there, passes) = c.loop-passed.invariant s d st in
-    let by = subst (λ ended. StepsOnce stands s way watches at before ended c.step_once.new.session new) c.in_default.is (c.step_once.ensures s at there) in
-    let next = (do_command s (step_of way) at).next in
-    let one : suc passed ≡ passed + 1 = omega arith in
-    (next, by.0, subst (λ n. PassesSteps n s way watches d table next new) one (steps_on s way watches passed d at table before new passes by.1))
-
-pub returns : goal.returns
-returns g c s d st =
-    let way = c.args.direction in
-    let watches = c.args.watches.now in
-    let passed = c.loop-passed.passed in
-    let table = table_of c.args.conditions.now in
-    let new = table_of c.loop-passed.conditions in
-    let (at, there, some) = c.loop-passed.invariant s d st in
-    let all : passed ≡ c.args.most = omega (arith, c.loop-passed-test.false, c.loop-passed.auto.passed-end) in
-    let passes = subst (λ n. PassesSteps n s way watches d table at new) all some in
-    record {
-      at = at;
-      before = new;
-      passes = passes;
-      ends = (refl, there, refl);
-      done = record { after = at; leads = steps_lead s way watches c.args.most d at table new passes; there = there };
-    }
+    let session = c.args.session.now in
+    subst (λ (ended : MoveEnd). WalksOn stands s way watches c.args.most d table (record { end = ended; passed = 0 }) session table) (sym c.end_without_memory.ensures)
+    (nothing_noted stands s way watches c.args.most d table session st)
