@@ -1,4 +1,6 @@
 //! Why there are no such commands as GDB has.
+use crate::fronts::{is_info, whole_word};
+use crate::settings::why_of_setting;
 use debug_words::{Marks, next_word};
 
 /// Words, and what is said of a line that begins with them.
@@ -9,7 +11,7 @@ pub(crate) struct Reason(
 );
 
 /// The first words of commands.
-const COMMANDS: [Reason; 14] = [
+const COMMANDS: [Reason; 13] = [
     Reason(
         &[b"kill", b"k"],
         b"There is no process to kill: the program runs inside the debugger; `quit` ends it.",
@@ -37,10 +39,6 @@ const COMMANDS: [Reason; 14] = [
     Reason(
         &[b"inferior", b"inferiors", b"add-inferior"],
         b"There is one program.",
-    ),
-    Reason(
-        &[b"clear"],
-        b"`delete N` deletes a breakpoint by its number; `info breakpoints` lists the numbers.",
     ),
     Reason(
         &[b"interrupt"],
@@ -201,44 +199,6 @@ const LISTS: [Reason; 4] = [
     ),
 ];
 
-/// The words behind `set`.
-const SETTINGS: [Reason; 3] = [
-    Reason(
-        &[b"exec-direction"],
-        b"The direction is in the command: `reverse-step`, `reverse-next` and `reverse-continue` go back.",
-    ),
-    Reason(
-        &[b"args", b"environment", b"cwd"],
-        b"What the program is given is named when the debugger is called: rinddecade debug SOURCE --input FILE.",
-    ),
-    Reason(
-        &[b"listsize"],
-        b"A number may follow `set listsize`, of the lines that `list` shows: 1 to 1000, or `unlimited`.",
-    ),
-];
-
-/// The words behind `set` that change how GDB shows things.
-const SILENT: [&[u8]; 18] = [
-    b"pagination",
-    b"height",
-    b"width",
-    b"confirm",
-    b"print",
-    b"p",
-    b"verbose",
-    b"style",
-    b"history",
-    b"logging",
-    b"prompt",
-    b"editing",
-    b"complaints",
-    b"debuginfod",
-    b"disassembly-flavor",
-    b"max-value-size",
-    b"trace-commands",
-    b"breakpoint",
-];
-
 /// What may stand in the text behind a command that shows or stops, and why nothing is done for it.
 const PARTS: [Reason; 2] = [
     Reason(
@@ -284,25 +244,18 @@ const SHOWING: [&[u8]; 19] = [
     b"display", b"whatis", b"ptype", b"break", b"b", b"br", b"tbreak", b"tb", b"watch",
 ];
 
-/// Whether a line is a setting of how GDB shows things, which changes nothing here.
-pub fn is_setting(text: &[u8]) -> bool {
-    match next_word(Marks::OfCommands, text) {
-        Some((word, rest)) => { word == b"set".as_slice() && is_one_of(&SILENT, first_word(rest)) }
-        None => false,
-    }
-}
-
 /// Why there is no such command, where it is known.
 pub fn explanation(text: &[u8]) -> Option<&'static [u8]> {
     if text.first() == Some(&b'!') {
         return why_of_command(b"!");
     }
-    let (word, rest) = next_word(Marks::OfCommands, text)?;
-    if is_one_of(&[b"info", b"i"], word) {
+    let (typed, rest) = next_word(Marks::OfCommands, text)?;
+    if is_info(typed) {
         return why_of(&LISTS, first_word(rest));
     }
+    let word = whole_word(typed);
     if word == b"set".as_slice() {
-        return why_of(&SETTINGS, first_word(rest));
+        return why_of_setting(rest);
     }
     if is_one_of(&[b"enable", b"en", b"disable", b"dis"], word) {
         return why_of(&ENABLING, first_word(rest));
@@ -335,7 +288,7 @@ pub(crate) fn first_word(text: &[u8]) -> &[u8] {
 }
 
 /// Whether a word is one of these.
-fn is_one_of(words: &[&[u8]], word: &[u8]) -> bool {
+pub(crate) fn is_one_of(words: &[&[u8]], word: &[u8]) -> bool {
     words.iter().any(|other| *other == word)
 }
 

@@ -1,4 +1,6 @@
 //! What commands there are, and what each does.
+use crate::explanations::first_word;
+use crate::fronts::{asks_lanes, is_info, whole_word};
 use debug_words::{Marks, next_word};
 
 /// A command: the words that it begins with, how it is used, and what it does.
@@ -109,7 +111,7 @@ const FIRST: [Topic; 16] = [
 ];
 
 /// The other commands.
-const OTHERS: [Topic; 21] = [
+const OTHERS: [Topic; 22] = [
     Topic {
         names: &[b"undisplay"],
         usage: b"undisplay [N]",
@@ -151,6 +153,11 @@ const OTHERS: [Topic; 21] = [
         text: b"deletes the breakpoints and watches of these numbers, among them ranges as 3-5, or all.",
     },
     Topic {
+        names: &[b"clear"],
+        usage: b"clear N",
+        text: b"deletes the first breakpoint on the line where `break N` would make one; N may be FILE:N or a function.",
+    },
+    Topic {
         names: &[b"disable", b"dis"],
         usage: b"disable [N ..]",
         text: b"lets `continue`, `reverse-continue` and `run` pass these breakpoints and watches, or all; conditions and counts stay.",
@@ -163,7 +170,7 @@ const OTHERS: [Topic; 21] = [
     Topic {
         names: &[b"info", b"i"],
         usage: b"info WHAT",
-        text: b"lists: breakpoints, watchpoints, locals, args, variables, functions [TEXT], display, frame, stack, lanes, record, source, line [N], program.",
+        text: b"lists: breakpoints, watchpoints, locals, args, variables, functions [TEXT], display, frame, stack, lanes, record, checkpoints, source, line [N], program.",
     },
     Topic {
         names: &[b"backtrace", b"bt", b"where"],
@@ -261,9 +268,18 @@ pub fn topics() -> [&'static [Topic]; 3] {
     [&FIRST, &OTHERS, &MOMENTS]
 }
 
-/// The command that has the first word of a text.
+/// The command that has the first word of a text, or of which this is a front; of `info lanes` what that tells.
 pub fn topic_of(text: &[u8]) -> Option<Topic> {
-    let (word, _) = next_word(Marks::OfCommands, text)?;
+    let (word, rest) = next_word(Marks::OfCommands, text)?;
+    if is_info(word) && asks_lanes(first_word(rest)) {
+        topic_in(&MOMENTS, b"lanes")
+    } else {
+        topic_named(whole_word(word))
+    }
+}
+
+/// The command that has a word.
+fn topic_named(word: &[u8]) -> Option<Topic> {
     topic_in(&FIRST, word)
         .or(topic_in(&OTHERS, word))
         .or(topic_in(&MOMENTS, word))

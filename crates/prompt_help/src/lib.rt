@@ -2,9 +2,12 @@
 #![tactic(auto)]
 
 mod explanations;
+mod fronts;
 mod help;
+mod settings;
 mod usages;
 
-pub use explanations::{explanation, is_setting, why_no_value};
+pub use explanations::{explanation, why_no_value};
 pub use help::{Topic, topic_of, topics};
+pub use settings::is_setting;
 pub use usages::usage_of;

@@ -1,5 +1,6 @@
 //! What may follow the words of a command.
 use crate::explanations::{Reason, first_word, why_of};
+use crate::fronts::whole_word;
 use debug_words::{Marks, next_word};
 
 /// The words of commands that move, print and stop, and what may follow them.
@@ -62,16 +63,16 @@ const FIRST: [Reason; 16] = [
     ),
     Reason(
         &[b"set"],
-        b"`set var T = V` sets a variable, a lane or an element by its number to a number, `true` or `false`, as `set var x[2] = -3`; no expression is worked out.",
+        b"`set var T = V` sets a variable, a lane or an element by its number to a number from -9223372036854775808 to 18446744073709551615, `true` or `false`, as `set var x[2] = -3`; no expression is worked out.",
     ),
     Reason(
         &[b"display"],
-        b"A variable is displayed, or a lane or an element by its number, as `display x` and `display x[2]`, and no other expression.",
+        b"A variable or an expression is displayed, as `display x`, `display x[2]` and `display x + 1`.",
     ),
 ];
 
 /// The words of the other commands, and what may follow them.
-const OTHERS: [Reason; 18] = [
+const OTHERS: [Reason; 19] = [
     Reason(
         &[b"undisplay"],
         b"A number may follow `undisplay`, that of `info display`; without one nothing is displayed any more.",
@@ -93,6 +94,10 @@ const OTHERS: [Reason; 18] = [
         b"Numbers and ranges may follow `delete`, those of `info breakpoints`, as `delete 1 3-5`; alone it deletes all.",
     ),
     Reason(
+        &[b"clear"],
+        b"A line follows `clear`, as `clear 12`, `clear FILE:12` with the name of this source, or a function of the source; `delete N` deletes a breakpoint by its number.",
+    ),
+    Reason(
         &[b"disable", b"dis"],
         b"Numbers and ranges may follow `disable`, those of `info breakpoints`, as `disable 1 3-5`; alone it disables all.",
     ),
@@ -102,7 +107,7 @@ const OTHERS: [Reason; 18] = [
     ),
     Reason(
         &[b"info", b"i"],
-        b"`info` lists: breakpoints, watchpoints, locals, args, variables, functions [TEXT], display, frame, stack, lanes, record, source, line [N], program.",
+        b"`info` lists: breakpoints, watchpoints, locals, args, variables, functions [TEXT], display, frame, stack, lanes, record, checkpoints, source, line [N], program.",
     ),
     Reason(
         &[b"backtrace", b"bt", b"where"],
@@ -141,9 +146,10 @@ const OTHERS: [Reason; 18] = [
 const HISTORY: &[u8] =
     b"`set record full insn-number-max N` says how many events are kept, from 1 to 65536, or `unlimited`.";
 
-/// What may follow the first word of a text, where it is the word of a command.
+/// What may follow the first word of a text, where it is the word of a command or a front of it.
 pub fn usage_of(text: &[u8]) -> Option<&'static [u8]> {
-    let (word, rest) = next_word(Marks::OfCommands, text)?;
+    let (typed, rest) = next_word(Marks::OfCommands, text)?;
+    let word = whole_word(typed);
     if word == b"set".as_slice() && first_word(rest) == b"record".as_slice() {
         return Some(HISTORY);
     }

@@ -1,6 +1,5 @@
 mod HeldTexts
 pub mod Prefixes
-mod Rows
 mod WorkedLines
 mod WorkedHeads
 mod Places

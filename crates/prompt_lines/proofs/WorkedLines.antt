@@ -86,6 +86,13 @@ longer_row = refl
 blank_row : line_of (codes "  ") ≡ record { kind = kind.Again; text = [] }
 blank_row = refl
 
+-- a comment, also behind blanks; a mark within a line begins none
+comment_row : line_of (codes "  # step 5") ≡ record { kind = kind.Look look.Text; text = [] }
+comment_row = refl
+
+no_comment_row : line_of (codes "p x # y") ≡ record { kind = kind.Print; text = codes "print  x # y" }
+no_comment_row = refl
+
 -- ---- fronts
 
 front_row : line_of (codes "disp x") ≡ record { kind = kind.Display; text = codes "print x" }
@@ -104,6 +111,16 @@ two_letters_row = refl
 
 longer_front_row : line_of (codes "nexts") ≡ record { kind = kind.Own; text = codes "nexts" }
 longer_front_row = refl
+
+last_front_row : line_of (codes "las total") ≡ record { kind = kind.Last; text = codes "watch total" }
+last_front_row = refl
+
+record_front_row : line_of (codes "rec") ≡ record { kind = kind.Look look.Recording; text = codes " " }
+record_front_row = refl
+
+-- a front of `info` that nothing stands behind
+info_alone_row : line_of (codes "inf") ≡ record { kind = kind.Look look.Lists; text = codes " " }
+info_alone_row = refl
 
 -- no shorter front of these moves the program
 reverse_row : line_of (codes "rev") ≡ record { kind = kind.Own; text = codes "reverse- " }

@@ -76,7 +76,11 @@ commands =
     ∷ full (codes "checkpoint") kind.Checkpoint (codes "checkpoint")
     ∷ full (codes "restart") kind.Restart (codes "goto")
     ∷ full (codes "goto") kind.Goto (codes "goto")
+    ∷ full (codes "last") kind.Last (codes "watch")
     ∷ full (codes "changes") kind.Changes (codes "watch")
+    ∷ full (codes "record") (kind.Look look.Recording) []
+    ∷ full (codes "info") (kind.Look look.Lists) []
+    ∷ full (codes "inspect") kind.Print (codes "print")
     ∷ full (codes "help") (kind.Look look.Help) []
     ∷ full (codes "quit") kind.Own (codes "quit")
     ∷ full (codes "exit") kind.Own (codes "quit")

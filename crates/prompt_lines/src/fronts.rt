@@ -36,7 +36,7 @@ const LISTS: [FullWord; 16] = [
 ];
 
 /// The commands. Of two with one front the first one counts; `reverse-` is none, so that no shorter front moves the program.
-const COMMANDS: [FullWord; 39] = [
+const COMMANDS: [FullWord; 43] = [
     FullWord(b"step", Kind::Own, b"step"),
     FullWord(b"next", Kind::Own, b"next"),
     FullWord(b"continue", Kind::Own, b"continue"),
@@ -72,7 +72,11 @@ const COMMANDS: [FullWord; 39] = [
     FullWord(b"checkpoint", Kind::Checkpoint, b"checkpoint"),
     FullWord(b"restart", Kind::Restart, b"goto"),
     FullWord(b"goto", Kind::Goto, b"goto"),
+    FullWord(b"last", Kind::Last, b"watch"),
     FullWord(b"changes", Kind::Changes, b"watch"),
+    FullWord(b"record", Kind::Look(Look::Recording), b""),
+    FullWord(b"info", Kind::Look(Look::Lists), b""),
+    FullWord(b"inspect", Kind::Print, b"print"),
     FullWord(b"help", Kind::Look(Look::Help), b""),
     FullWord(b"quit", Kind::Own, b"quit"),
     FullWord(b"exit", Kind::Own, b"quit"),

@@ -52,7 +52,7 @@ pub enum Look {
     Lists,
     /// What commands there are, or what one does.
     Help,
-    /// A text.
+    /// A text: that behind `echo`, and none of a comment.
     Text,
     /// How much of an array is told, and how many lines are listed.
     Layout,

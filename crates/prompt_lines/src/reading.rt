@@ -1,5 +1,5 @@
 //! How a line is read.
-ghost use Rattle.std.specs.Prelude.{◌≡◌, ◌≤◌, ◌++◌, ◌∷◌, drop, length, map};
+ghost use Rattle.std.specs.Prelude.{◌≡◌, ◌≤◌, ◌++◌, ◌∷◌, [], drop, length, map, if◌then◌else◌};
 ghost use Rattle.std.specs.List.{prefix_len};
 ghost use Rattle.gang_model.specs.Texts.CommandText as text;
 ghost use Rattle.gang_model.specs.Texts.Spellings as spelling;
@@ -9,7 +9,7 @@ ghost use Rattle.prompt_lines.specs.Readings.{bytes_option, row_view, spelled, s
 ghost use Rattle.prompt_lines.specs.Words as spec;
 
 use crate::fronts::{begun, listed};
-use crate::line::{HELD, Kind, PromptLine, Text};
+use crate::line::{HELD, Kind, Look, PromptLine, Text};
 use crate::table::{LETTERS, LOOKS, ROWS, Row};
 use debug_words::{Marks, Radix, digits_number, is_blank, next_word};
 
@@ -26,13 +26,51 @@ const MOST_STEPS: u128 = 4_611_686_018_427_387_904;
 pub fn read_line(line: &[u8]) -> PromptLine
     ensures { spelled result ≡ lines.line_of line.now }
 {
-    let text = unblanked(line);
-    if text.is_empty() {
-        return PromptLine {
-            kind: Kind::Again,
-            text: Text::new(),
-        };
+    text_spelled(unblanked(line))
+}
+
+/// What a text stands for that has no blank at its beginning.
+fn text_spelled(text: &[u8]) -> PromptLine
+    ensures { spelled result ≡ lines.text_spelled text.now }
+{
+    match text {
+        [] => without_text(Kind::Again),
+        [first, ..] => comment_or_read(*first, text),
     }
+}
+
+/// What a text stands for that begins with a byte.
+fn comment_or_read(first: u8, text: &[u8]) -> PromptLine
+    ensures { spelled result ≡ if lines.begins_comment first then lines.comment else lines.letters_or (spec.found_by spec.letters text.now) text.now }
+{
+    if begins_comment(first) {
+        without_text(Kind::Look(Look::Text))
+    } else {
+        letters_or(text)
+    }
+}
+
+/// Whether a byte begins a comment.
+fn begins_comment(byte: u8) -> bool
+    ensures { result ≡ lines.begins_comment byte }
+{
+    byte == b'#'
+}
+
+/// A line of a kind that has no text.
+fn without_text(kind: Kind) -> PromptLine
+    ensures { spelled result ≡ record { kind = kind; text = [] } }
+{
+    PromptLine {
+        kind,
+        text: Text::new(),
+    }
+}
+
+/// A text with a letter behind a blank, else one that the other tables read.
+fn letters_or(text: &[u8]) -> PromptLine
+    ensures { spelled result ≡ lines.letters_or (spec.found_by spec.letters text.now) text.now }
+{
     match found_by(&LETTERS, text) {
         Some(line) => line,
         None => done_or_own(text),

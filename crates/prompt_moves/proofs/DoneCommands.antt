@@ -1,7 +1,7 @@
 -- Commands that a prompt does, and the lists that they make.
 use Rattle.std.proofs.Common.{◌≡◌, true, List, [], ◌∷◌, ◌++◌, sym, ap, ◌∙◌, inl, inr}
 use Rattle.std.proofs.lemmas.Bool.{true≢false}
-use Rattle.gang_model.specs.Debugger.Debugger.{Command, Debugger, DoBacktrace, DoBreak, DoContinue, DoDelete, DoFinish, DoInfoBreakpoints, DoInfoLocals, DoNext, DoNothing, DoPrint, DoQuit, DoReverseContinue, DoReverseFinish, DoReverseNext, DoReverseStep, DoSet, DoSetHistory, DoStep, DoUndo, DoWatch, IsReply, MayRunOut, Reply, Setting, do_command}
+use Rattle.gang_model.specs.Debugger.Debugger.{Command, Debugger, DoBacktrace, DoBreak, DoContinue, DoDelete, DoFinish, DoInfoBreakpoints, DoInfoLocals, DoNext, DoNothing, DoPrint, DoQuit, DoReverseContinue, DoReverseFinish, DoReverseNext, DoReverseStep, DoSet, DoSetHistory, DoSetIn, DoStep, DoUndo, DoWatch, IsReply, MayRunOut, Reply, Setting, do_command}
 use Rattle.debug_answers.specs.declared.answer.Answer.{Answer}
 use Rattle.debug_session.specs.declared.session.Session.{Session}
 use Rattle.debug_session.specs.Sessions.{RepliesOn, RepliesTo, Sets, StandsFor}
@@ -35,10 +35,12 @@ move_sure DoBacktrace d moving may = absurd (true≢false (sym moving))
 move_sure DoNothing d moving may = absurd (true≢false (sym moving))
 move_sure DoQuit d moving may = absurd (true≢false (sym moving))
 move_sure (DoSetHistory n) d moving may = absurd (true≢false (sym moving))
+move_sure (DoSetIn deep target z) d moving may = absurd (true≢false (sym moving))
 
 -- a command that moves sets no value
 sets_none : (command : Command) → readings.moves command ≡ true → Sets command → ⊥
 sets_none (DoSet target z) moving sets = true≢false (sym moving)
+sets_none (DoSetIn deep target z) moving sets = true≢false (sym moving)
 sets_none other moving sets = sets
 
 reply_done : (s : Setting) (command : Command) (d : Debugger) (r : Reply) → (MayRunOut command d → ⊥) → IsReply s command d r → r ≡ do_command s command d

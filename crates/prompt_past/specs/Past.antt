@@ -5,8 +5,8 @@ use Rattle.conditional_stops.specs.declared.sights.FrameWatch.{FrameWatch}
 use Rattle.prompt_scenes.specs.Holding.{Held}
 use Rattle.prompt_scenes.specs.SelectedFrame.{depth_of}
 use Rattle.prompt_scenes.specs.Changes.{started}
-use Rattle.prompt_scenes.specs.Readings.{watch_number}
-use Rattle.prompt_moves.specs.Moments.{is_unchanged, is_unset, led, steps_on, stops_back}
+use Rattle.prompt_scenes.specs.Readings.{is_history_end, watch_number}
+use Rattle.prompt_moves.specs.Moments.{is_unset, led, steps_on, stops_back}
 use Rattle.prompt_moves.specs.Following.{begun, follows, shown}
 use Rattle.prompt_past.specs.FramePast.{back_in_frame, part_named, told_in_frame}
 
@@ -16,7 +16,7 @@ sought s h d None = []
 sought s h d (Some number) =
     let r = do_command s DoReverseContinue d in
     let e = (do_command s (DoDelete (Some number)) r.next).next in
-    DoReverseContinue ∷ DoDelete (Some number) ∷ (if is_unchanged d r.answer then steps_on (kept_steps d) s e else follows h r.answer)
+    DoReverseContinue ∷ DoDelete (Some number) ∷ (if is_history_end r.answer then steps_on (kept_steps d) s e else follows h r.answer)
 
 -- back to the last change of a target
 abbrev pub last_by : Setting → Debugger → Held → Option Target → List Command
@@ -49,9 +49,10 @@ abbrev pub last_as : Setting → Debugger → Held → Target → (part : Option
 last_as s d h target None = last_by s d h (Some target)
 last_as s d h target (Some w) = back_in_frame s w d ++ shown h.displays
 
+-- the same where no value that was set can be taken back: else the way back would lead past a change that no statement made
 abbrev pub last_of : Setting → Debugger → Held → Option Target → List Command
 last_of s d h None = []
-last_of s d h (Some target) = last_as s d h target (part_of s d h target)
+last_of s d h (Some target) = if is_unset d then last_as s d h target (part_of s d h target) else []
 
 -- `changes`: of a variable of the frame that is selected, where single steps lead back to where the program stands; else of one of the file
 abbrev pub changes_as : Setting → Debugger → Target × ℕ → (part : Option FrameWatch) → List Command
@@ -65,7 +66,7 @@ changes_of s d h (Some named) = changes_as s d named (part_of s d h named.0)
 -- what going back to a change changes
 abbrev pub after_sought : Setting → Held → Debugger → (made : Option ℕ) → Held
 after_sought s h d None = h
-after_sought s h d (Some number) = let r = do_command s DoReverseContinue d in if is_unchanged d r.answer then h else begun h r.answer
+after_sought s h d (Some number) = let r = do_command s DoReverseContinue d in if is_history_end r.answer then h else begun h r.answer
 
 abbrev pub after_last : Setting → Debugger → Held → Option Target → Held
 after_last s d h None = h
@@ -76,6 +77,7 @@ abbrev pub after_last_as : Setting → Debugger → Held → Target → (part : 
 after_last_as s d h target None = after_last s d h (Some target)
 after_last_as s d h target (Some w) = started h
 
+-- what `last` changes: nothing where it does nothing
 abbrev pub after_last_of : Setting → Debugger → Held → Option Target → Held
 after_last_of s d h None = h
-after_last_of s d h (Some target) = after_last_as s d h target (part_of s d h target)
+after_last_of s d h (Some target) = if is_unset d then after_last_as s d h target (part_of s d h target) else h

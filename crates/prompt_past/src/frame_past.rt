@@ -28,9 +28,6 @@ use prompt_moves::{is_unset, show_displays, step_on};
 use prompt_scenes::{Holding, Scene, depth, local_named, selected_depth};
 use prompt_texts::{Before, Beginning, Page, Watched, tell_move, tell_since};
 
-/// What is said where values were set on the way back.
-const TAKEN_BACK: &[u8] = b"What `set var` set since then is taken back.\n";
-
 /// What `watch` of a target would watch of the frame at a depth, if its name stands for a variable of a function there.
 fn part_named<M: FramedMachine>(target: Target<'_>, depth: usize, machine: &M) -> Option<FrameWatch>
     ensures { (s : Setting) (d : Debugger) → M.stands machine.now s d → result ≡ spec.part_named s d depth (target_view target.entry) }
@@ -88,16 +85,12 @@ fn go_and_tell<M: FramedMachine, O: AnswerWriter + Drop>(
     ensures { (s : Setting) (d : Debugger) → StandsFor M.stands session.old s d
         → StandsFor M.stands session.new s (moments.led s (spec.back_in_frame s watch.now d) d) }
 {
-    let set = set_values(session);
     let value_type = type_of(watch, session.machine());
     let shown = back_to_change(watch, session);
     let end = end_of(&shown, watch, session);
     into_frame(watch, session);
     let newer = Watched::showing(target, value_type, words(&shown));
     tell_found(&newer, end, watch, session, page);
-    if set_values(session) < set {
-        page.put(TAKEN_BACK);
-    }
     let here = Before::note(session.machine());
     tell_move(
         &Answer::Here,
@@ -321,10 +314,4 @@ fn words(shown: &Sight) -> &[u64] {
         Some(words) => words,
         None => &[],
     }
-}
-
-/// How many values were set that can be taken back.
-fn set_values<M: RecordedMachine>(session: &Session<M>) -> usize {
-    let machine = session.machine();
-    machine.kept().saturating_sub(machine.kept_steps())
 }

@@ -1,5 +1,5 @@
 //! What changed a variable, or a lane or an element of one: its last change, and those before it. Those of the file are watched for that.
-ghost use Rattle.std.specs.Prelude.{◌≡◌, ◌&&◌, Some};
+ghost use Rattle.std.specs.Prelude.{◌≡◌, Some};
 ghost use Rattle.gang_model.specs.Debugger.Debugger.{Debugger, DoDelete, Setting, do_command};
 ghost use Rattle.gang_model.specs.Texts.CommandText.{command_of};
 ghost use Rattle.command_lists.specs.Lists.{HasDone};
@@ -7,7 +7,6 @@ ghost use Rattle.debug_commands.specs.Views.{target_view};
 ghost use Rattle.debug_session.specs.Sessions.{StandsFor};
 ghost use Rattle.prompt_scenes.specs.Holding.{held};
 ghost use Rattle.prompt_scenes.specs.Readings as readings;
-ghost use Rattle.prompt_scenes.specs.Given as given;
 ghost use Rattle.prompt_moves.specs.Moments as moments;
 ghost use Rattle.prompt_past.specs.Past as past;
 
@@ -31,11 +30,11 @@ const LAST: &[u8] =
 const CHANGES: &[u8] =
     b"A variable, a lane or an element follows `changes`, as `changes total` and `changes x[2]`: its last ten changes are listed, or as many as a number behind it says.";
 
-/// Why no changes are listed.
+/// Why nothing is done where a value was set.
 pub(crate) const IS_SET: &[u8] =
-    b"Nothing is done: a value was set by `set var`, which going back would take back; `last T` goes to the last change.\n";
+    b"Nothing is done: a value was set by `set var`, which going back would take back; `undo` takes it back.\n";
 
-/// Goes back to the last change of a target.
+/// Goes back to the last change of a target. Nothing is done where a value that was set can be taken back.
 pub fn go_to_last<M: ExpressionMachine, O: AnswerWriter + Drop>(
     text: &[u8],
     holding: &mut Holding,
@@ -48,9 +47,28 @@ pub fn go_to_last<M: ExpressionMachine, O: AnswerWriter + Drop>(
         × (held holding.new ≡ past.after_last_of s d (held holding.old) (readings.watch_of (command_of text.now))) }
 {
     match watch_of(text) {
-        Some(target) => seek_named(target, holding, scene, session, page),
+        Some(target) => seek_if_unset(target, holding, scene, session, page),
         None => tell_usage(LAST, scene.line, page),
     }
+}
+
+/// Goes back to the last change of a target, where no value that was set can be taken back.
+fn seek_if_unset<M: ExpressionMachine, O: AnswerWriter + Drop>(
+    target: Target<'_>,
+    holding: &mut Holding,
+    scene: Scene<'_>,
+    session: &mut Session<M>,
+    page: &mut Page<O>,
+)
+    ensures { (s : Setting) (d : Debugger) → StandsFor M.stands session.old s d
+        → HasDone M.stands s (past.last_of s d (held holding.old) (Some (target_view target.entry))) d session.new
+        × (held holding.new ≡ past.after_last_of s d (held holding.old) (Some (target_view target.entry))) }
+{
+    if !is_unset(session) {
+        page.put(IS_SET);
+        return;
+    }
+    seek_named(target, holding, scene, session, page);
 }
 
 /// Goes back to the last change of a target: of a variable of the frame that is selected, or of the file.
@@ -62,8 +80,8 @@ fn seek_named<M: ExpressionMachine, O: AnswerWriter + Drop>(
     page: &mut Page<O>,
 )
     ensures { (s : Setting) (d : Debugger) → StandsFor M.stands session.old s d
-        → HasDone M.stands s (past.last_of s d (held holding.old) (Some (target_view target.entry))) d session.new
-        × (held holding.new ≡ past.after_last_of s d (held holding.old) (Some (target_view target.entry))) }
+        → HasDone M.stands s (past.last_as s d (held holding.old) (target_view target.entry) (past.part_of s d (held holding.old) (target_view target.entry))) d session.new
+        × (held holding.new ≡ past.after_last_as s d (held holding.old) (target_view target.entry) (past.part_of s d (held holding.old) (target_view target.entry))) }
 {
     match part_of(target, holding, session) {
         Some(watch) => seek_in_frame(&watch, target, holding, scene, session, page),
@@ -107,23 +125,15 @@ fn seek_change<M: ExpressionMachine, O: AnswerWriter + Drop>(
     let before = Before::note(session.machine());
     let newer = Watched::note(target, session.machine());
     let steps = session.machine().kept_steps() as u64;
-    let is_unset = is_unset(session);
     let answer = session.do_command(Command::ReverseContinue);
     unwatch(number, session);
-    if is_unchanged(&answer, is_unset) {
+    if is_history_end(&answer) {
         let _ = step_on(steps, session);
         tell_never_changed(target, session, page);
     } else {
         tell_sought(&answer, number, &newer, &before, scene, session, page);
         follow(&answer, holding, scene, session, page);
     }
-}
-
-/// Whether a move back went past all changes, and single steps lead to where it began.
-fn is_unchanged(answer: &Answer<'_>, is_unset: bool) -> bool
-    ensures { result ≡ (given.is_history_end answer.now && is_unset) }
-{
-    is_history_end(answer) && is_unset
 }
 
 /// Tells where the way back to a change led: what the statement there changed, or what stopped the way before it.

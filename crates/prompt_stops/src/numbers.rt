@@ -79,6 +79,7 @@ pub fn disable<M: RecordedMachine, O: AnswerWriter + Drop>(
     if are_numbers(text) {
         let numbers = numbers_named(text, holding, session);
         tell_missing(text, holding, session, page);
+        tell_if_none(text, numbers.as_slice(), page);
         disable_each(numbers.as_slice(), holding, page);
     } else {
         tell_unknown(scene.line, page);
@@ -109,6 +110,7 @@ pub fn enable<M: RecordedMachine, O: AnswerWriter + Drop>(
     if are_numbers(text) {
         let numbers = numbers_named(text, holding, session);
         tell_missing(text, holding, session, page);
+        tell_if_none(text, numbers.as_slice(), page);
         enable_each(numbers.as_slice(), holding, page);
     } else {
         tell_unknown(scene.line, page);
@@ -122,6 +124,13 @@ fn enable_each<O: AnswerWriter + Drop>(numbers: &[u32], holding: &mut Holding, p
     for number in numbers {
         holding.enable(*number);
         tell_done(b"enabled ", *number, page);
+    }
+}
+
+/// Tells that there is nothing, where a line means all breakpoints and watches and none is there.
+fn tell_if_none<O: AnswerWriter + Drop>(text: &[u8], numbers: &[u32], page: &mut Page<O>) {
+    if numbers.is_empty() && is_alone(text) {
+        page.put(b"no breakpoint or watch is there\n");
     }
 }
 

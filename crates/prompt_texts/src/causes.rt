@@ -2,15 +2,31 @@
 use crate::page::Page;
 use crate::refusals::{argument, put_refused, put_refused_part};
 use debug_answers::Refusal;
-use debug_traits::{AnswerWriter, RecordedMachine, Shown};
+use debug_traits::{AnswerWriter, FramedMachine, RecordedMachine, Shown};
 use debug_words::{Marks, Radix, digits_number, next_word};
 use gang_types::IntType;
+
+/// The values of the language that are no variables.
+const NO_VARIABLES: [&[u8]; 2] = [b"programIndex", b"programCount"];
 
 /// A variable that a line names, and the index behind it.
 #[derive(Clone, Copy)]
 struct Named<'a> {
     name: &'a [u8],
     index: Option<u128>,
+}
+
+/// Why a line does not take a variable that is there, or a part of it.
+#[derive(Clone, Copy)]
+enum Cause {
+    /// An array is named without an index.
+    WholeArray,
+    /// The index is past the end.
+    PastEnd,
+    /// A part is named of one value for all lanes.
+    OneValue,
+    /// The line takes variables of the file, and it is none.
+    Local,
 }
 
 /// Writes why a command is refused, with the line and a mark under what it is refused for.
@@ -30,6 +46,33 @@ pub fn tell_refused_here<M: RecordedMachine, O: AnswerWriter + Drop>(
         Some(named) => machine.find(named.name),
         None => None,
     };
+    tell_cause(refusal, named, found, line, page);
+}
+
+/// Writes why a value of the frame at a depth is not set or watched, with the line and a mark under what it is refused for.
+pub fn tell_refused_at<M: FramedMachine, O: AnswerWriter + Drop>(
+    refusal: Refusal,
+    line: &[u8],
+    depth: usize,
+    machine: &M,
+    page: &mut Page<O>,
+) {
+    let named = named_in(line);
+    let found = match named {
+        Some(named) => machine.find_at(depth, named.name),
+        None => None,
+    };
+    tell_cause(refusal, named, found, line, page);
+}
+
+/// Writes why a command is refused, by what the name on its line stands for.
+fn tell_cause<O: AnswerWriter + Drop>(
+    refusal: Refusal,
+    named: Option<Named<'_>>,
+    found: Option<Shown>,
+    line: &[u8],
+    page: &mut Page<O>,
+) {
     match (refusal, named, found) {
         (Refusal::OutOfRange, Some(named), Some(shown)) => {
             page.put(b"C8 OutOfRange: ");
@@ -37,8 +80,7 @@ pub fn tell_refused_here<M: RecordedMachine, O: AnswerWriter + Drop>(
             put_refused_part(line, page);
         }
         (Refusal::NoSuchName, Some(named), Some(shown)) => {
-            page.put(b"C2 NoSuchName: ");
-            put_no_part(named, shown, page);
+            tell_no_part(named, shown, page);
             put_refused_part(line, page);
         }
         (Refusal::NoSuchName, Some(named), None) => {
@@ -49,7 +91,7 @@ pub fn tell_refused_here<M: RecordedMachine, O: AnswerWriter + Drop>(
     }
 }
 
-/// Writes why a command is refused that names a variable of an outer frame, with the line and a mark under what it is refused for.
+/// Writes why a command is refused that shows a variable of an outer frame, with the line and a mark under what it is refused for.
 pub fn tell_refused<O: AnswerWriter + Drop>(refusal: Refusal, line: &[u8], page: &mut Page<O>) {
     match (refusal, named_in(line)) {
         (Refusal::NoSuchName, Some(named)) if named.index.is_none() => {
@@ -62,9 +104,15 @@ pub fn tell_refused<O: AnswerWriter + Drop>(refusal: Refusal, line: &[u8], page:
 
 /// Writes that there is no variable of a name.
 fn put_no_name<O: AnswerWriter + Drop>(named: Named<'_>, page: &mut Page<O>) {
-    page.put(b"C2 NoSuchName: no variable in scope or of the file is called ");
-    page.put_masked(named.name);
-    page.put(b".\n");
+    if NO_VARIABLES.iter().any(|name| *name == named.name) {
+        put_no_such(named, b" is no variable: `print ", page);
+        page.put(named.name);
+        page.put(b"` shows it, and it never changes.\n");
+    } else {
+        page.put(b"C2 NoSuchName: no variable in scope or of the file is called ");
+        page.put_masked(named.name);
+        page.put(b".\n");
+    }
 }
 
 /// Writes that an index is past the end, or else which values a type has.
@@ -91,16 +139,46 @@ fn put_out_of_range<O: AnswerWriter + Drop>(named: Named<'_>, shown: Shown, page
     }
 }
 
-/// Writes why a variable that is there has no such part, or is not watched.
-fn put_no_part<O: AnswerWriter + Drop>(named: Named<'_>, shown: Shown, page: &mut Page<O>) {
-    page.put(named.name);
-    if named.index.is_some() && !shown.is_array && shown.count == 1 {
-        page.put(b" is one value for all lanes, and has no parts.\n");
-    } else {
-        page.put(
+/// Writes why a variable that is there has no such part, or is not taken.
+fn tell_no_part<O: AnswerWriter + Drop>(named: Named<'_>, shown: Shown, page: &mut Page<O>) {
+    match cause_of(named, shown) {
+        Cause::WholeArray => {
+            put_no_such(named, b" is an array: name one element, as `", page);
+            page.put(named.name);
+            page.put(b"[0]`.\n");
+        }
+        Cause::PastEnd => {
+            page.put(b"C8 OutOfRange: ");
+            put_out_of_range(named, shown, page);
+        }
+        Cause::OneValue => put_no_such(
+            named,
+            b" is one value for all lanes, and has no parts.\n",
+            page,
+        ),
+        Cause::Local => put_no_such(
+            named,
             b" is a local variable: this line takes variables of the file. `watch` takes those of functions too, by parts that are there.\n",
-        );
+            page,
+        ),
     }
+}
+
+/// Why a line does not take a variable that is there, or a part of it.
+fn cause_of(named: Named<'_>, shown: Shown) -> Cause {
+    match named.index {
+        None if shown.is_array => Cause::WholeArray,
+        Some(_) if !shown.is_array && shown.count == 1 => Cause::OneValue,
+        Some(index) if index >= shown.count as u128 => Cause::PastEnd,
+        None | Some(_) => Cause::Local,
+    }
+}
+
+/// Writes that a name stands for nothing that a line takes, and why.
+fn put_no_such<O: AnswerWriter + Drop>(named: Named<'_>, why: &[u8], page: &mut Page<O>) {
+    page.put(b"C2 NoSuchName: ");
+    page.put(named.name);
+    page.put(why);
 }
 
 /// The values of a type.

@@ -20,6 +20,10 @@ use prompt_help::why_no_value;
 /// The widest gang.
 const WIDEST: usize = 16;
 
+/// What is said of a type that does not fit, where an index is written: it may be that of a lane.
+const NO_LANE: &[u8] =
+    b"the type does not fit: an array has no value without an index, and a bool is no number; in an expression lane 2 of a varying x is `extract(x, 2)`.\n";
+
 /// An expression as it was typed: its text is the end of a line.
 #[derive(Clone, Copy)]
 pub struct Spelled<'a> {
@@ -168,7 +172,7 @@ fn tell_refusal<O: AnswerWriter + Drop>(
             put_refusal(
                 name_of(refusal.number),
                 refusal.place,
-                why_of(refusal.number),
+                why_in(refusal.number, spelled.text),
                 spelled,
                 page,
             );
@@ -247,6 +251,14 @@ fn name_of(number: RefusalNumber) -> &'static [u8] {
         RefusalNumber::S11 => b"S11 BadControl",
         RefusalNumber::S12 => b"S12 NestedCall",
         RefusalNumber::S13 => b"S13 Limit",
+    }
+}
+
+/// What a refusal says of a text.
+fn why_in(number: RefusalNumber, text: &[u8]) -> &'static [u8] {
+    match number {
+        RefusalNumber::S8 if text.iter().any(|byte| *byte == b'[') => NO_LANE,
+        _ => why_of(number),
     }
 }
 

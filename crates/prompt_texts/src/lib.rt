@@ -23,7 +23,7 @@ mod values;
 
 pub use answers::{tell, tell_move};
 pub use asked::{Asked, show_moment, tell_asked};
-pub use causes::{tell_refused, tell_refused_here};
+pub use causes::{tell_refused, tell_refused_at, tell_refused_here};
 pub use changes::{Before, Beginning, Watched, tell_never_changed, tell_since};
 pub use expressions::{Spelled, show_expression, show_faulty, tell_no_value};
 pub use forms::Digits;
@@ -41,6 +41,6 @@ pub use moments::{
     show_checkpoint, show_recording, tell_checkpoint, tell_no_such_step, tell_not_whole, tell_usage,
 };
 pub use page::Page;
-pub use refusals::tell_unknown;
+pub use refusals::{tell_unknown, tell_unspelled};
 pub use source::Source;
 pub use told::{Told, put_told, told_variable};

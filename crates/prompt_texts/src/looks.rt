@@ -305,10 +305,13 @@ pub fn show_lists<O: AnswerWriter + Drop>(line: &[u8], page: &mut Page<O>) {
     }
 }
 
-/// Writes a text behind the blanks that it begins with, and ends the line; `\\n` ends a line too.
+/// Writes a text behind the blanks that it begins with, and ends the line; `\\n` ends a line too. Of no text nothing is written.
 pub fn show_text<O: AnswerWriter + Drop>(text: &[u8], page: &mut Page<O>) {
     let blanks = text.iter().take_while(|byte| is_blank(**byte)).count();
     let mut rest = text.get(blanks..).unwrap_or(&[]);
+    if rest.is_empty() {
+        return;
+    }
     if let Some(front) = rest.strip_suffix(b"\\n") {
         rest = front;
     }

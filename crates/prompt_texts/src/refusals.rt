@@ -6,6 +6,13 @@ use debug_traits::AnswerWriter;
 use debug_words::{Marks, is_blank, next_word};
 use prompt_help::{explanation, is_setting, usage_of};
 
+/// The most bytes of a line of commands.
+const MOST_BYTES: usize = 256;
+
+/// What is said of a longer one.
+const TOO_LONG: &[u8] =
+    b"C1 BadCommand: a line of commands has at most 256 bytes, where `p` and other short words count as the whole ones.\n";
+
 /// Writes why a command is refused, and the line with a mark under what it is refused for.
 pub(crate) fn put_refused<O: AnswerWriter + Drop>(
     refusal: Refusal,
@@ -29,15 +36,26 @@ pub(crate) fn put_refused_part<O: AnswerWriter + Drop>(line: &[u8], page: &mut P
     put_typed(line, argument(line).unwrap_or(blanks(line)), page);
 }
 
-/// Writes what is wrong with a line that stands for no command: why there is no such command, what to type in its place, or where
-/// help is. A setting of how GDB shows things is taken in silence.
+/// Writes what is wrong with a line, by the command line that it stands for: that this is too long, or else why it is no command.
+pub fn tell_unspelled<O: AnswerWriter + Drop>(text: &[u8], line: &[u8], page: &mut Page<O>) {
+    if text.len() > MOST_BYTES {
+        page.put(TOO_LONG);
+    } else {
+        tell_unknown(line, page);
+    }
+}
+
+/// Writes what is wrong with a line that stands for no command: that it is too long, why there is no such command, what to type in its
+/// place, or where help is. A setting of how GDB shows things is taken in silence.
 pub fn tell_unknown<O: AnswerWriter + Drop>(line: &[u8], page: &mut Page<O>) {
     let first = blanks(line);
     let text = line.get(first..).unwrap_or(&[]);
     if is_setting(text) {
         return;
     }
-    if let Some(why) = explanation(text) {
+    if line.len() > MOST_BYTES {
+        page.put(TOO_LONG);
+    } else if let Some(why) = explanation(text) {
         page.put(why);
         page.put(b"\n");
     } else if let Some(usage) = usage_of(text) {
