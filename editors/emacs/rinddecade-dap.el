@@ -123,12 +123,20 @@ Where there is none, it goes to the beginning of the history."
   (interactive (list (dap--cur-active-session-or-die)))
   (dap--step "reverseContinue" session))
 
+(defun rinddecade--frame (session)
+  "The argument that names the frame of SESSION which is looked at, if there is one."
+  (let ((frame (dap--debug-session-active-frame session)))
+    (when frame
+      (list :frameId (gethash "id" frame)))))
+
 (defun rinddecade-line (line session)
-  "Shows what SESSION answers to LINE.
-It is a command of the debugger, as `watch total', or an expression."
+  "Shows what SESSION answers to LINE, or why it refuses it.
+It is a command of the debugger, as `watch total', or an expression, which
+has its value in the frame that is looked at."
   (interactive (list (read-string "Line: " nil 'rinddecade-line-history) (dap--cur-active-session-or-die)))
-  (dap--send-message (dap--make-request "evaluate" (list :expression line :context "repl"))
-                     (dap--resp-handler (lambda (response) (message "%s" (gethash "result" (gethash "body" response)))))
+  (dap--send-message (dap--make-request "evaluate" (append (list :expression line :context "repl") (rinddecade--frame session)))
+                     (dap--resp-handler (lambda (response) (message "%s" (gethash "result" (gethash "body" response))))
+                                        (lambda (why) (message "%s" why)))
                      session))
 
 (defvar rinddecade-line-history nil

@@ -3,7 +3,7 @@ use Rattle.std.proofs.Common.{◌≡◌, ◌^◌, true, false, [], Some, None, O
 use Rattle.std.specs.Fmt.{digits}
 use Rattle.std.specs.Path.{path_file_name, rsplit_once, split_last_component, trim_trailing}
 use Rattle.serde_json.proofs.OnLiterals.{serde_json_on_literals}
-use Rattle.serde_json.specs.Data.{Data, array, boolean, item, member, no_items, no_members, null, object, string}
+use Rattle.serde_json.specs.Data.{Data, Members, array, boolean, item, member, no_items, no_members, null, object, string}
 use Rattle.serde_json.specs.Find.{get}
 use Rattle.adapter_requests.specs.declared.reply.Breakpoint.TheVariants.{Stands, Refused}
 use Rattle.adapter_requests.specs.declared.reply.BreakpointFault.TheVariants as fault
@@ -15,8 +15,24 @@ use Rattle.adapter_requests.specs.declared.reply.VariableKind.TheVariants as kin
 use Rattle.adapter_requests.specs.declared.request.Context.TheVariants.{Hover, Watch}
 use Rattle.adapter_requests.specs.declared.request.Filter.TheVariants as filter
 use Rattle.adapter_requests.specs.declared.request.Way.TheVariants.{Backwards, Forwards}
-use Rattle.adapter_messages.specs.Arguments.{breakpoint_in, context_in, filter_in, function_in, hexadecimal_in, time_number, time_of, unmarked, watch_in}
+use Rattle.adapter_messages.specs.Arguments.{breakpoint_in, context_in, filter_in, function_in, head_of, hexadecimal_in, time_number, time_of, unmarked, watch_in}
 use Rattle.adapter_messages.specs.Replies.{attributes, breakpoint, file_name, hint, moved, only, stop_body, time, times, variable_of}
+
+-- a request, a message of another type, and one of none
+abbrev of_type : Members → Data
+of_type type = object (member (codes "command") (string (codes "next")) (member (codes "seq") (natural 1) type))
+
+a_request : head_of (of_type (member (codes "type") (string (codes "request")) no_members)) ≡ Some (1, codes "next")
+a_request = refl
+
+a_response : head_of (of_type (member (codes "type") (string (codes "response")) no_members)) ≡ None
+a_response = refl
+
+in_large_letters : head_of (of_type (member (codes "type") (string (codes "Request")) no_members)) ≡ None
+in_large_letters = refl
+
+no_type : head_of (of_type no_members) ≡ None
+no_type = refl
 
 -- a path with folders, one without, and one without a last part
 behind_folders : file_name (codes "examples/first.ispc") ≡ codes "first.ispc"
@@ -55,6 +71,18 @@ a_text_for_a_number : missing (codes "variables") (given (only (codes "variables
 unfolding serde_json_on_literals
 a_text_for_a_number = refl
 
+-- a frame that is a text, and one that is `null`
+abbrev in_frame : Data → Data
+in_frame frame = given (object (member (codes "expression") (string (codes "x")) (member (codes "frameId") frame no_members)))
+
+a_text_for_a_frame : missing (codes "evaluate") (in_frame (string (codes "2"))) ≡ Some (codes "frameId")
+unfolding serde_json_on_literals
+a_text_for_a_frame = refl
+
+no_frame : missing (codes "evaluate") (in_frame null) ≡ None
+unfolding serde_json_on_literals
+no_frame = refl
+
 -- a width that is a text, and one that is left out
 a_text_for_a_width : missing (codes "launch") (given (object (member (codes "program") (string (codes "a")) (member (codes "width") (string (codes "8")) no_members)))) ≡ Some (codes "width")
 unfolding serde_json_on_literals
@@ -91,6 +119,16 @@ never = refl
 
 no_line : breakpoint_in (object no_members) ≡ Err fault.Unplaced
 no_line = refl
+
+-- an empty count is none, and lines count from 1
+an_empty_count : breakpoint_in (with_count (string [])) ≡ Ok (record { line = 7; condition = None; passes = 0; log = None })
+an_empty_count = refl
+
+a_number_for_a_count : breakpoint_in (with_count (natural 3)) ≡ Err fault.NoCount
+a_number_for_a_count = refl
+
+line_0 : breakpoint_in (only (codes "line") (natural 0)) ≡ Err fault.Unplaced
+line_0 = refl
 
 -- a text in place of a stop, an empty one, and a number for one
 abbrev with_message : Data → Data

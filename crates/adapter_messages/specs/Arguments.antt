@@ -43,9 +43,20 @@ both None second = None
 both (Some x) None = None
 both (Some x) (Some y) = Some (x, y)
 
--- the number and the command of a message, if it has both
+-- whether a word is `request`
+abbrev pub is_request_word : Option Bytes → Bool
+is_request_word None = false
+is_request_word (Some word) = same_text word (codes "request")
+
+-- whether a message says that it is a request: its type is this text
+abbrev pub is_request : Data → Bool
+is_request message = is_request_word (option_and_then as_str (get (codes "type") message))
+
+-- the number and the command of a request, if it has both; a message of another type is none
 abbrev pub head_of : Data → Option (ℕ × Bytes)
-head_of message = both (option_and_then as_u64 (option_and_then as_number (get (codes "seq") message))) (option_and_then as_str (get (codes "command") message))
+head_of message =
+    if is_request message then both (option_and_then as_u64 (option_and_then as_number (get (codes "seq") message))) (option_and_then as_str (get (codes "command") message))
+    else None
 
 -- a text that may be there
 abbrev pub text_of : Option (Bor Bytes) → Option Bytes
@@ -132,9 +143,13 @@ time_of n = option_map (λ line. (line, way_of n)) (as_line (n / 2))
 abbrev pub time_in : Data → Option (ℕ × Way)
 time_in message = option_and_then time_of (number_at (codes "/arguments/targetId") message)
 
+-- a number that the line of a breakpoint can have: lines count from 1
+abbrev pub as_counted_line : ℕ → Option ℕ
+as_counted_line n = if n == 0 then None else as_line n
+
 -- the line of a breakpoint
 abbrev pub line_in : Data → Option ℕ
-line_in d = option_and_then as_line (option_and_then as_u64 (option_and_then as_number (get (codes "line") d)))
+line_in d = option_and_then as_counted_line (option_and_then as_u64 (option_and_then as_number (get (codes "line") d)))
 
 -- what each of a list asks for
 abbrev pub each_asked : {A : Type 0} → (Data → Result A BreakpointFault) → Items → List (Result A BreakpointFault)
@@ -179,9 +194,14 @@ abbrev pub passes_before : Option ℕ → Result ℕ BreakpointFault
 passes_before None = Err fault.NoCount
 passes_before (Some k) = Ok (k - 1)
 
+-- an empty count is none: no stop is passed
+abbrev pub passes_said : Bytes → Result ℕ BreakpointFault
+passes_said text = if length text == 0 then Ok 0 else passes_before (number text)
+
 abbrev pub passes_by : (is_absent : Bool) → Option Bytes → Result ℕ BreakpointFault
 passes_by true text = Ok 0
-passes_by false text = passes_before (option_and_then number text)
+passes_by false None = Err fault.NoCount
+passes_by false (Some text) = passes_said text
 
 -- how many stops of a breakpoint are passed: a decimal number K from 1 to 10,000,000 lets it stop the K-th time and from then on
 abbrev pub passes_in : Data → Result ℕ BreakpointFault

@@ -37,6 +37,10 @@ stack_options message =
     ∷ (codes "levels", is_right (number_at (codes "/arguments/levels") message) (pointer (codes "/arguments/levels") message))
     ∷ []
 
+-- the frame in which something is looked for, which may be left out too
+abbrev pub frame_options : Data → List (Bytes × Bool)
+frame_options message = (codes "frameId", is_right (number_at (codes "/arguments/frameId") message) (pointer (codes "/arguments/frameId") message)) ∷ []
+
 -- the arguments that a request of a name needs, in their order, and whether a message has each of the right type
 abbrev pub needs : Name → Data → List (Bytes × Bool)
 needs name.Launch message = (codes "program", is_some (text_at (codes "/arguments/program") message)) ∷ launch_options message
@@ -48,9 +52,9 @@ needs name.StackTrace message = stack_options message
 needs name.Scopes message = (codes "frameId", is_some (number_at (codes "/arguments/frameId") message)) ∷ []
 needs name.Variables message = (codes "variablesReference", is_some (number_at (codes "/arguments/variablesReference") message)) ∷ page_options message
 needs name.SetVariable message = (codes "variablesReference", is_some (number_at (codes "/arguments/variablesReference") message)) ∷ (codes "name", is_some (text_at (codes "/arguments/name") message)) ∷ (codes "value", is_some (text_at (codes "/arguments/value") message)) ∷ []
-needs name.SetExpression message = (codes "expression", is_some (text_at (codes "/arguments/expression") message)) ∷ (codes "value", is_some (text_at (codes "/arguments/value") message)) ∷ []
-needs name.Completions message = (codes "text", is_some (text_at (codes "/arguments/text") message)) ∷ (codes "column", is_some (number_at (codes "/arguments/column") message)) ∷ []
-needs name.Evaluate message = (codes "expression", is_some (text_at (codes "/arguments/expression") message)) ∷ []
+needs name.SetExpression message = (codes "expression", is_some (text_at (codes "/arguments/expression") message)) ∷ (codes "value", is_some (text_at (codes "/arguments/value") message)) ∷ frame_options message
+needs name.Completions message = (codes "text", is_some (text_at (codes "/arguments/text") message)) ∷ (codes "column", is_some (number_at (codes "/arguments/column") message)) ∷ frame_options message
+needs name.Evaluate message = (codes "expression", is_some (text_at (codes "/arguments/expression") message)) ∷ frame_options message
 needs name message = []
 
 -- the first that is not there

@@ -86,7 +86,7 @@ capabilities = object (with_others (with_breakpoints (with_requests (with_filter
 
 -- why a breakpoint or a watch is not there
 abbrev pub fault_text : BreakpointFault → Bytes
-fault_text fault.Unplaced = codes "its line, name or target is missing or of a wrong type"
+fault_text fault.Unplaced = codes "its line is no number from 1 to 4294967295, or its name or target is no text"
 fault_text fault.Logging = codes "only a breakpoint of a line has a log message"
 fault_text fault.NoCondition = codes "its condition is no text of at most 256 bytes"
 fault_text fault.NoCount = codes "its count is no number from 1 to 10000000"

@@ -2,7 +2,7 @@
 ghost use Rattle.std.specs.Prelude.{◌≡◌, IfOk, Some, codes, map, option_map};
 ghost use Rattle.gang_model.specs.Texts.CommandText.{number};
 ghost use Rattle.serde_json.specs.View.{items_view, view};
-ghost use Rattle.adapter_messages.specs.Arguments.{asked_breakpoint, asked_function, asked_name, asked_option, asked_watch, breakpoint_in, breakpoints_of, condition_in, context_in, each_asked, filter_in, flag_at, function_in, has_log, hexadecimal_in, is_absent, joined, joined_name, line_at, line_in, log_in, logging, named_in, number_at, page_in, passes_in, text_at, text_of, time_in, time_of, unmarked, watch_in, way_of};
+ghost use Rattle.adapter_messages.specs.Arguments.{as_counted_line, asked_breakpoint, asked_function, asked_name, asked_option, asked_watch, breakpoint_in, breakpoints_of, condition_in, context_in, each_asked, filter_in, flag_at, function_in, has_log, hexadecimal_in, is_absent, joined, joined_name, line_at, line_in, log_in, logging, named_in, number_at, page_in, passes_in, passes_said, text_at, text_of, time_in, time_of, unmarked, watch_in, way_of};
 
 use adapter_requests::{
     BreakpointFault, Context, DataBreakpoint, Filter, FunctionBreakpoint, LineBreakpoint, Page, Way,
@@ -117,7 +117,17 @@ fn line_of(breakpoint: &Value) -> Option<u32>
     ensures { result ≡ line_in (view breakpoint.now) }
 {
     let line = breakpoint.get("line").and_then(Value::as_u64);
-    line.and_then(|line| u32::try_from(line).ok())
+    line.and_then(counted_line)
+}
+
+/// A number as a line, which count from 1.
+fn counted_line(number: u64) -> Option<u32>
+    ensures { result ≡ as_counted_line number }
+{
+    if number == 0 {
+        return None;
+    }
+    u32::try_from(number).ok()
 }
 
 /// The first of three that is wrong, or the breakpoint that they are.
@@ -195,7 +205,20 @@ fn passes_of(breakpoint: &Value) -> Result<u32, BreakpointFault>
     if is_absent(given) {
         return Ok(0);
     }
-    match given.and_then(Value::as_str).and_then(count_of) {
+    match given.and_then(Value::as_str) {
+        None => Err(BreakpointFault::NoCount),
+        Some(text) => passes_said(text),
+    }
+}
+
+/// How many stops are passed by the text of a count; an empty one is none.
+fn passes_said(text: &str) -> Result<u32, BreakpointFault>
+    ensures { result ≡ passes_said text.now }
+{
+    if text.is_empty() {
+        return Ok(0);
+    }
+    match count_of(text) {
         Some(count) => Ok(count.saturating_sub(1)),
         None => Err(BreakpointFault::NoCount),
     }

@@ -282,7 +282,9 @@ fn fault_text(fault: BreakpointFault) -> &'static str
     ensures { result.now ≡ fault_text fault }
 {
     match fault {
-        BreakpointFault::Unplaced => "its line, name or target is missing or of a wrong type",
+        BreakpointFault::Unplaced => {
+            "its line is no number from 1 to 4294967295, or its name or target is no text"
+        }
         BreakpointFault::Logging => "only a breakpoint of a line has a log message",
         BreakpointFault::NoCondition => "its condition is no text of at most 256 bytes",
         BreakpointFault::NoCount => "its count is no number from 1 to 10000000",

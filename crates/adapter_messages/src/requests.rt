@@ -1,9 +1,9 @@
 //! Requests from JSON.
-ghost use Rattle.std.specs.Prelude.{◌≡◌, IfErr, IfNone, IfOk, IfSome, None, OnErr, OnOk, Some, codes, if◌then◌else◌, option_and_then};
+ghost use Rattle.std.specs.Prelude.{◌≡◌, IfErr, IfNone, IfOk, IfSome, None, OnErr, OnOk, OnSome, Some, codes, if◌then◌else◌, option_and_then, true};
 ghost use Rattle.serde_json.specs.Find.{as_number, as_str, as_u64, get, pointer};
 ghost use Rattle.serde_json.specs.View.{view};
-ghost use Rattle.adapter_messages.specs.Arguments.{IsRequest, IsRequestNamed, flag_at, head_of, is_right, number_at, text_at, text_of, unmarked};
-ghost use Rattle.adapter_messages.specs.Faults.{IsRefused, IsRefusedNamed, NamesArgument, first_missing, launch_options, missing, needs, page_options, stack_options};
+ghost use Rattle.adapter_messages.specs.Arguments.{IsRequest, IsRequestNamed, flag_at, head_of, is_request, is_right, number_at, text_at, text_of, unmarked};
+ghost use Rattle.adapter_messages.specs.Faults.{IsRefused, IsRefusedNamed, NamesArgument, first_missing, frame_options, launch_options, missing, needs, page_options, stack_options};
 ghost use Rattle.adapter_messages.specs.declared.requests.RequestFault.TheVariants.{Memory};
 
 use crate::arguments::{
@@ -12,6 +12,7 @@ use crate::arguments::{
 };
 use crate::names::{Name, named};
 use adapter_requests::{Launch, Request};
+use debug_words::is_same;
 use serde_json::Value;
 use std::alloc::{AllocError, Global};
 use thiserror::Error;
@@ -41,16 +42,30 @@ pub struct Head<'a> {
     pub command: &'a str,
 }
 
-/// The number and the command of a message, if it has both.
+/// The number and the command of a request, if it has both; a message of another type is none.
 pub fn read_head(message: &Value) -> Option<Head<'_>>
+    ensures typed { OnSome result (is_request (view message.now) ≡ true) }
     ensures found { IfSome result (λ head.
         (option_and_then as_u64 (option_and_then as_number (get (codes "seq") (view message.now))) ≡ Some head.number)
         × (option_and_then as_str (get (codes "command") (view message.now)) ≡ Some head.command.now)) }
     ensures none { IfNone result (head_of (view message.now) ≡ None) }
 {
+    if !is_request(message) {
+        return None;
+    }
     let number = message.get("seq").and_then(Value::as_u64)?;
     let command = message.get("command").and_then(Value::as_str)?;
     Some(Head { number, command })
+}
+
+/// Whether a message says that it is a request.
+fn is_request(message: &Value) -> bool
+    ensures { result ≡ is_request (view message.now) }
+{
+    match message.get("type").and_then(Value::as_str) {
+        None => false,
+        Some(word) => is_same(word.as_bytes(), b"request"),
+    }
 }
 
 /// The request that a message with a command is.
@@ -255,6 +270,14 @@ fn read_information(message: &Value) -> Result<Request<'_>, RequestFault>
     })
 }
 
+/// The argument for a frame, where it is there by a wrong type.
+fn wrong_frame(message: &Value) -> Option<&'static str>
+    ensures { text_of result ≡ first_missing (frame_options (view message.now)) }
+{
+    let frame = is_right_number(message, "/arguments/frameId");
+    wrong_or(frame, "frameId", None)
+}
+
 /// The watches.
 fn read_watches(alloc: Global, message: &Value) -> Result<Request<'_>, RequestFault>
     ensures accepted { IfOk result (λ request. IsRequestNamed Name.SetDataBreakpoints (view message.now) request) }
@@ -363,6 +386,9 @@ fn read_set_expression(message: &Value) -> Result<Request<'_>, RequestFault>
 {
     let expression = needed(text_at(message, "/arguments/expression"), "expression")?;
     let new = needed(text_at(message, "/arguments/value"), "value")?;
+    if let Some(argument) = wrong_frame(message) {
+        return Err(RequestFault::Argument(argument));
+    }
     Ok(Request::SetExpression {
         expression,
         value: unmarked(new),
@@ -378,14 +404,17 @@ fn read_completions(message: &Value) -> Result<Request<'_>, RequestFault>
     ensures refused { IfErr result (IsRefusedNamed Name.Completions (view message.now)) }
 {
     let text = needed(text_at(message, "/arguments/text"), "text")?;
-    match number_at(message, "/arguments/column") {
-        Some(column) => Ok(Request::Completions {
-            text,
-            column,
-            frame: number_at(message, "/arguments/frameId"),
-        }),
-        None => Err(RequestFault::Argument("column")),
+    let Some(column) = number_at(message, "/arguments/column") else {
+        return Err(RequestFault::Argument("column"));
+    };
+    if let Some(argument) = wrong_frame(message) {
+        return Err(RequestFault::Argument(argument));
     }
+    Ok(Request::Completions {
+        text,
+        column,
+        frame: number_at(message, "/arguments/frameId"),
+    })
 }
 
 /// An expression that is evaluated.
@@ -395,6 +424,9 @@ fn read_evaluate(message: &Value) -> Result<Request<'_>, RequestFault>
     ensures refused { IfErr result (IsRefusedNamed Name.Evaluate (view message.now)) }
 {
     let expression = needed(text_at(message, "/arguments/expression"), "expression")?;
+    if let Some(argument) = wrong_frame(message) {
+        return Err(RequestFault::Argument(argument));
+    }
     Ok(Request::Evaluate {
         expression,
         frame: number_at(message, "/arguments/frameId"),
