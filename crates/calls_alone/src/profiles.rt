@@ -10,7 +10,9 @@ use lane_counts::{Gang, StepAt, Tally};
 use lane_meetings::Meetings;
 use lane_picture::StepsEnd;
 use lane_profile::count_run;
-use profile_texts::{Compared, Counted, Form, Subject, write_comparison, write_profile};
+use profile_texts::{
+    Compared, ComparedRun, Counted, Form, Subject, write_comparison, write_profile,
+};
 use std::alloc::Global;
 use tests_devices::PieceWriter;
 
@@ -113,10 +115,15 @@ fn write_table(alloc: Global, tally: &Tally) -> Ended {
 
 /// Writes the shares at three widths.
 fn compare(alloc: Global, tally: &Tally) -> Ended {
+    let run = ComparedRun {
+        tally,
+        end: StepsEnd::Ended,
+    };
     let compared = Compared {
-        four: tally,
-        eight: tally,
-        sixteen: tally,
+        four: run,
+        eight: run,
+        sixteen: run,
+        first_number: 1,
         has_colours: false,
     };
     let mut writer = PieceWriter::new(512, 512);

@@ -4,7 +4,7 @@ use crate::samples::{INPUT, OPTIONS, SOURCE};
 use debug_commands::Command;
 use debug_traits::{FramedMachine, RecordedMachine};
 use desk_options::read_verb;
-use expression_watches::{ExpressionWatch, expression_sight, judge_text};
+use expression_watches::{ExpressionWatch, KeptCodes, expression_sight, judge_text, kept_sight};
 use frame_expressions::ExpressionMachine;
 use frame_values::value_of_expression;
 use gang_machine::Machine;
@@ -46,6 +46,7 @@ pub(crate) fn call(alloc: Global, name: &str) -> Option<Ended> {
         "frame_values::value_of_expression" => Some(evaluate(alloc, &session(alloc)?)),
         "expression_watches::judge_text" => judge(alloc, &session(alloc)?),
         "expression_watches::expression_sight" => see(alloc, &session(alloc)?),
+        "expression_watches::kept_sight" => see_kept(alloc, &session(alloc)?),
         "prompt_texts::told_variable" => tell_variable(alloc, &session(alloc)?),
         "source_port::port" => Some(end_of(&port(alloc, SOURCE))),
         _ => None,
@@ -131,6 +132,14 @@ fn see(alloc: Global, session: &ProgramSession<4>) -> Option<Ended> {
     let machine = session.machine();
     let watch = ExpressionWatch::new(1, 1, machine.spot(1)?, b"n + t[1]")?;
     Some(end_of(&expression_sight(alloc, &watch, machine)))
+}
+
+/// The same, where no code is kept of it yet.
+fn see_kept(alloc: Global, session: &ProgramSession<4>) -> Option<Ended> {
+    let machine = session.machine();
+    let watch = ExpressionWatch::new(1, 1, machine.spot(1)?, b"n + t[1]")?;
+    let mut kept = KeptCodes::new(alloc);
+    Some(end_of(&kept_sight(alloc, &watch, &mut kept, machine)))
 }
 
 /// What is told of an array where the program stands.

@@ -72,7 +72,7 @@ pub(crate) fn write_accesses<O: AnswerWriter>(
         }
     }
     write_uncounted(accesses, writer)?;
-    write_end(tally, end, subject, writer)
+    write_end(tally, end, subject.first_number, writer)
 }
 
 /// Writes the row of an access.

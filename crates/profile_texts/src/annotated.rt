@@ -45,7 +45,7 @@ pub(crate) fn write_annotated<O: AnswerWriter>(
         ];
         write_parts(writer, &parts)?;
     }
-    write_end(tally, end, subject, writer)
+    write_end(tally, end, subject.first_number, writer)
 }
 
 /// Writes what stands before a line that has steps.

@@ -5,23 +5,33 @@ use crate::colours::{ink, plain};
 use crate::lines::{front_of, line_at, lines_of};
 use crate::parts::Part::{Right, Share, Shown, Text};
 use crate::parts::write_parts;
+use crate::tables::write_end;
 use debug_traits::{AnswerWriter, WriteFault};
 use lane_counts::{Counts, Tally, share};
+use lane_picture::StepsEnd;
 use std::alloc::{AllocError, Global};
 
 /// The most bytes of a line of the source.
 const MOST_SHOWN: usize = 40;
 
-/// The counts of the same run by gangs of 4, 8 and 16 lanes, and whether shares have colours.
+/// The counts of a run, and how it ended.
+#[derive(Clone, Copy)]
+pub struct ComparedRun<'a> {
+    pub tally: &'a Tally,
+    pub end: StepsEnd,
+}
+
+/// The same run by gangs of 4, 8 and 16 lanes, the number of the first step that is counted, and whether shares have colours.
 #[derive(Clone, Copy)]
 pub struct Compared<'a> {
-    pub four: &'a Tally,
-    pub eight: &'a Tally,
-    pub sixteen: &'a Tally,
+    pub four: ComparedRun<'a>,
+    pub eight: ComparedRun<'a>,
+    pub sixteen: ComparedRun<'a>,
+    pub first_number: u32,
     pub has_colours: bool,
 }
 
-/// Writes for each line the steps and the share of the lanes at each width, in the order of the source.
+/// Writes for each line the steps and the share of the lanes at each width, in the order of the source, and then how each run ended.
 ///
 /// # Errors
 ///
@@ -53,9 +63,9 @@ fn write_rows<O: AnswerWriter>(
     )?;
     for number in 0..lines.len().saturating_add(1) {
         let counts = [
-            counts_at(compared.four, number),
-            counts_at(compared.eight, number),
-            counts_at(compared.sixteen, number),
+            counts_at(compared.four.tally, number),
+            counts_at(compared.eight.tally, number),
+            counts_at(compared.sixteen.tally, number),
         ];
         if counts.iter().any(|counts| counts.steps > 0) {
             write_parts(writer, &[Right(number as u64, 5)])?;
@@ -66,12 +76,29 @@ fn write_rows<O: AnswerWriter>(
     }
     writer.write_all(b"  all")?;
     let all = [
-        compared.four.all(),
-        compared.eight.all(),
-        compared.sixteen.all(),
+        compared.four.tally.all(),
+        compared.eight.tally.all(),
+        compared.sixteen.tally.all(),
     ];
     write_widths(all, compared.has_colours, writer)?;
-    writer.write_all(b"\n")
+    writer.write_all(b"\n")?;
+    write_run_end(4, compared.four, compared.first_number, writer)?;
+    write_run_end(8, compared.eight, compared.first_number, writer)?;
+    write_run_end(16, compared.sixteen, compared.first_number, writer)
+}
+
+/// Writes how the run by a gang of so many lanes ended.
+fn write_run_end<O: AnswerWriter>(
+    lanes: u64,
+    run: ComparedRun<'_>,
+    first_number: u32,
+    writer: &mut O,
+) -> Result<(), WriteFault>
+    requires works { O.has_failed writer.old ≡ false }
+    ensures failed { O.has_failed writer.new ≡ is_err result }
+{
+    write_parts(writer, &[Right(lanes, 2), Text(b" lanes: ")])?;
+    write_end(run.tally, run.end, first_number, writer)
 }
 
 fn counts_at(tally: &Tally, line: usize) -> Counts {

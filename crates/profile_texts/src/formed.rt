@@ -35,7 +35,7 @@ pub(crate) fn write_forms<O: AnswerWriter>(
             write_form(*row, tally, subject, writer)?;
         }
     }
-    write_end(tally, end, subject, writer)
+    write_end(tally, end, subject.first_number, writer)
 }
 
 /// Writes the row of a form.

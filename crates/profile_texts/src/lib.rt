@@ -14,5 +14,5 @@ mod profile;
 mod rows;
 mod tables;
 
-pub use comparing::{Compared, write_comparison};
+pub use comparing::{Compared, ComparedRun, write_comparison};
 pub use profile::{Counted, Form, Subject, write_profile};

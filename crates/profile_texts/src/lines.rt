@@ -1,7 +1,7 @@
 //! The lines of a source.
 use std::alloc::{AllocError, Global};
 
-/// The lines of a source, the first at 0.
+/// The lines of a source without their ends, a carriage return before a line feed among them; the first at 0.
 ///
 /// # Errors
 ///
@@ -11,7 +11,8 @@ pub(crate) fn lines_of(alloc: Global, source: &[u8]) -> Result<Vec<&[u8]>, Alloc
     let mut begin = 0usize;
     for (at, byte) in source.iter().enumerate() {
         if *byte == b'\n' {
-            lines.push(source.get(begin..at).unwrap_or(&[]))?;
+            let line = source.get(begin..at).unwrap_or(&[]);
+            lines.push(line.strip_suffix(b"\r").unwrap_or(line))?;
             begin = at.saturating_add(1);
         }
     }

@@ -68,7 +68,7 @@ pub(crate) fn write_partings<O: AnswerWriter>(
     write_parts(writer, &[Text(b"  all         ")])?;
     write_counts(times, between, writer)?;
     writer.write_all(b"\n")?;
-    write_end(tally, end, subject, writer)
+    write_end(tally, end, subject.first_number, writer)
 }
 
 /// How many partings there are, and the steps between, all together.

@@ -42,7 +42,7 @@ pub(crate) fn write_lines<O: AnswerWriter>(
     writer.write_all(b"  all")?;
     write_counts(tally.all(), subject, writer)?;
     writer.write_all(b"\n")?;
-    write_end(tally, end, subject, writer)
+    write_end(tally, end, subject.first_number, writer)
 }
 
 /// Writes the columns of some counts.
@@ -95,7 +95,7 @@ pub(crate) fn write_functions<O: AnswerWriter>(
     write_counts(tally.all(), subject, writer)?;
     write_whole(tally.all(), subject, writer)?;
     writer.write_all(b"\n")?;
-    write_end(tally, end, subject, writer)
+    write_end(tally, end, subject.first_number, writer)
 }
 
 /// Writes the columns of what a function takes with what it calls.
@@ -130,23 +130,23 @@ fn write_calls<O: AnswerWriter>(calls: Counts, writer: &mut O) -> Result<(), Wri
     write_parts(writer, &parts)
 }
 
-/// How many steps were done or tried, those before the first one that is counted among them.
-fn steps_done(tally: &Tally, subject: &Subject<'_>) -> u64 {
-    let before = u64::from(subject.first_number.saturating_sub(1));
+/// How many steps were done or tried, those before the first one that is counted, which has this number, among them.
+fn steps_done(tally: &Tally, first_number: u32) -> u64 {
+    let before = u64::from(first_number.saturating_sub(1));
     before.saturating_add(tally.all().steps)
 }
 
-/// Writes how a run ended.
+/// Writes how a run ended of which the steps from this number on are counted.
 pub(crate) fn write_end<O: AnswerWriter>(
     tally: &Tally,
     end: StepsEnd,
-    subject: &Subject<'_>,
+    first_number: u32,
     writer: &mut O,
 ) -> Result<(), WriteFault>
     requires works { O.has_failed writer.old ≡ false }
     ensures failed { O.has_failed writer.new ≡ is_err result }
 {
-    let steps = steps_done(tally, subject);
+    let steps = steps_done(tally, first_number);
     match end {
         StepsEnd::Ended => {
             let parts = [

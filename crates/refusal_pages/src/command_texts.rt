@@ -49,6 +49,10 @@ The variables of a calling function are not seen from the called one: `finish`
 or `reverse-finish` goes there. An array is set and watched element by
 element. Where the program has ended, `reverse-step` goes back to its last
 step, and there they are again.
+
+At the prompt of `rinddecade debug` `watch` takes variables of functions too,
+while their frame is there, and `up` selects the frame of the caller, whose
+variables are seen then.
 "
 }
 

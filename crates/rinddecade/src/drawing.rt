@@ -31,6 +31,9 @@ const NO_TARGET: &[u8] =
 
 const NOT_NAMED: &[u8] = b"--watch: the source has no variable ";
 
+/// Why commands are not done.
+const NO_COMMAND: &[u8] = b"--commands: no command of the debugger is spelled so: ";
+
 /// What is drawn of a run: what the words ask for, the texts that they name, and what is watched.
 #[derive(Clone, Copy)]
 struct Plan<'a> {
@@ -82,8 +85,30 @@ pub(crate) fn draw_picture(rt: &HostRuntime, picture: &Picture<'_>) -> ExitCode
     draw_texts(rt, picture, texts, commands.as_slice())
 }
 
-/// The command lines that a file has, none where no file is named; or the status where it cannot be read or has too many.
+/// The command lines that a file has, none where no file is named; or the status where it cannot be read or has too many, or where a line
+/// before one that quits spells no command.
 pub(crate) fn read_commands(rt: &HostRuntime, path: Option<&str>) -> Result<Vec<u8>, ExitCode> {
+    let commands = command_file(rt, path)?;
+    match unknown_line(commands.as_slice()) {
+        None => Ok(commands),
+        Some(line) => Err(refuse_because(rt, NO_COMMAND, line)),
+    }
+}
+
+/// The first line that spells no command, of those before one that quits.
+fn unknown_line(lines: &[u8]) -> Option<&[u8]> {
+    for line in lines.split(|byte| *byte == b'\n') {
+        match read_command(line) {
+            Some(Command::Quit) => return None,
+            Some(_) => {}
+            None => return Some(line),
+        }
+    }
+    None
+}
+
+/// The bytes of a file of commands, none where no file is named; or the status where it cannot be read or has too many.
+fn command_file(rt: &HostRuntime, path: Option<&str>) -> Result<Vec<u8>, ExitCode> {
     let Some(path) = path else {
         return Ok(Vec::new(rt.alloc()));
     };

@@ -3,7 +3,9 @@ use crate::refusing::{refuse, refuse_file};
 use debug_inputs::MOST_BYTES as MOST_INPUT;
 use ispc_refusals::Refusal;
 use ispc_script::MOST_BYTES;
+use std::alloc::{AllocError, Global};
 use std::io::Read;
+use std::os::unix::fs::MetadataExt;
 use std::process::ExitCode;
 use std::{fs, io};
 
@@ -25,6 +27,29 @@ pub(crate) fn file_front(rt: &HostRuntime, path: &str, most: usize) -> io::Resul
     let most = (most as u64).saturating_add(1);
     file.take(most).read_to_end(&mut text)?;
     Ok(text)
+}
+
+/// A text whose lines end by line feeds alone: without the carriage returns before them.
+pub(crate) fn without_returns(alloc: Global, text: &[u8]) -> Result<Vec<u8>, AllocError> {
+    let mut kept = Vec::new(alloc);
+    for (at, byte) in text.iter().enumerate() {
+        let is_before_feed = text.get(at.saturating_add(1)) == Some(&b'\n');
+        if *byte != b'\r' || !is_before_feed {
+            kept.push(*byte)?;
+        }
+    }
+    Ok(kept)
+}
+
+/// Whether two paths lead to one file, however they are spelled: through other folders, or by links.
+pub(crate) fn is_one_file(rt: &HostRuntime, one: &str, other: &str) -> bool {
+    if one == other {
+        return true;
+    }
+    match (fs::metadata(rt, one), fs::metadata(rt, other)) {
+        (Ok(one), Ok(other)) => one.dev() == other.dev() && one.ino() == other.ino(),
+        (Ok(_), Err(_)) | (Err(_), _) => false,
+    }
 }
 
 /// Why a file is neither read nor written, where people can do something about it.

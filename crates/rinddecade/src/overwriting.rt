@@ -1,5 +1,5 @@
 //! Which files a picture or a page is written over.
-use crate::files::file_front;
+use crate::files::{file_front, is_one_file};
 use crate::refusing::refuse_because;
 use desk_options::Program;
 use std::fs;
@@ -40,14 +40,32 @@ pub(crate) fn refuse_overwriting(
     let Some(path) = to else {
         return Ok(());
     };
-    let read = [Some(program.source), program.input, commands];
-    if read.iter().any(|other| *other == Some(path)) {
+    if is_read(rt, path, program, commands) {
         return Err(refuse_because(rt, over_source(written), path.as_bytes()));
     }
     if force || !holds_other(rt, written, path) {
         return Ok(());
     }
     Err(refuse_because(rt, over_other(written), path.as_bytes()))
+}
+
+/// Whether a path leads to a file that is read: the source of a program, its input or the commands.
+pub(crate) fn is_read(
+    rt: &HostRuntime,
+    path: &str,
+    program: &Program<'_>,
+    commands: Option<&str>,
+) -> bool {
+    let is_this = is_one_file(rt, path, program.source);
+    is_this || is_named(rt, path, program.input) || is_named(rt, path, commands)
+}
+
+/// Whether a path leads to a file that is named, if one is.
+fn is_named(rt: &HostRuntime, path: &str, named: Option<&str>) -> bool {
+    match named {
+        Some(named) => is_one_file(rt, path, named),
+        None => false,
+    }
 }
 
 fn over_source(written: Written) -> &'static [u8] {

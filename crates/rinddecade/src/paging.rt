@@ -5,7 +5,7 @@ ghost use Rattle.ispc_debugger.specs.Runs.{lanes_of};
 
 use crate::counting::{Counted, length_of, tell_size};
 use crate::drawing::{do_lines, read_commands};
-use crate::files::{read_texts, reason};
+use crate::files::{read_texts, reason, without_returns};
 use crate::overwriting::{Written, refuse_overwriting};
 use crate::places::places_in;
 use crate::refusing::{Texts, refuse, refuse_because, refuse_file, refuse_program, write_fault};
@@ -56,10 +56,14 @@ pub(crate) fn page_run(rt: &HostRuntime, page: &RunPage<'_>) -> ExitCode
         Ok(places) => places,
         Err(status) => return status,
     };
+    let Ok(shown) = without_returns(rt.alloc(), source.as_slice()) else {
+        return refuse(rt, &Refusal::Memory);
+    };
     let texts = Texts::new(page.program.source, source.as_slice(), input.as_slice());
     let plan = Plan {
         page,
         texts,
+        shown: shown.as_slice(),
         commands: commands.as_slice(),
         places: places.as_slice(),
     };
@@ -152,11 +156,12 @@ fn page_on<const W: usize, O: Write + Drop>(
     }
 }
 
-/// What a page is asked for, with the texts of its files and the steps that `--around` names.
+/// What a page is asked for, with the texts of its files, the source as it is shown, and the steps that `--around` names.
 #[derive(Drop)]
 struct Plan<'a> {
     page: &'a RunPage<'a>,
     texts: Texts<'a>,
+    shown: &'a [u8],
     commands: &'a [u8],
     places: &'a [u32],
 }
@@ -166,7 +171,7 @@ impl Plan<'_> {
     fn subject(&self) -> Subject<'_> {
         Subject {
             title: self.texts.source.name,
-            source: self.texts.source.text,
+            source: self.shown,
             first_number: self.page.from,
             most_steps: self.page.most.saturating_mul(self.page.each),
             most_words: self.page.elements,

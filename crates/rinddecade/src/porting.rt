@@ -1,5 +1,5 @@
 //! A source for Intel's compiler, rewritten as one of the language: to a file or to standard output.
-use crate::files::{read_file, reason};
+use crate::files::{is_one_file, read_file, reason};
 use crate::refusing::{Texts, refuse, refuse_because, refuse_file, write_fault};
 use debug_streams::StreamWriter;
 use desk_options::Ported;
@@ -55,7 +55,7 @@ fn write_text(rt: &HostRuntime, ported: &Ported<'_>, text: &[u8]) -> ExitCode {
             Err(_) => write_fault(rt),
         };
     };
-    if path == ported.source {
+    if is_one_file(rt, path, ported.source) {
         return refuse_because(
             rt,
             b"the text would be written over what it is made from: ",

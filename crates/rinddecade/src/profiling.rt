@@ -4,6 +4,7 @@ ghost use Rattle.ispc_options.specs.Ranges.{AreInRange};
 ghost use Rattle.ispc_debugger.specs.Runs.{lanes_of};
 
 use crate::files::{read_texts, reason};
+use crate::overwriting::is_read;
 use crate::paging::NOT_SO_FAR;
 use crate::porting::holds_something;
 use crate::refusing::{Texts, refuse, refuse_because, refuse_file, refuse_program, write_fault};
@@ -20,7 +21,9 @@ use lane_counts::Tally;
 use lane_meetings::Meetings;
 use lane_picture::StepsEnd;
 use lane_profile::{count_run, do_steps};
-use profile_texts::{Compared, Counted as Told, Form, Subject, write_comparison, write_profile};
+use profile_texts::{
+    Compared, ComparedRun, Counted as Told, Form, Subject, write_comparison, write_profile,
+};
 use std::alloc::{AllocError, Global};
 use std::fs;
 use std::io::{IsTerminal, LineWriter, Write};
@@ -47,7 +50,7 @@ enum Shown {
 #[derive(Drop)]
 enum Counted {
     Run(Form, Run),
-    Widths(Tally, Tally, Tally),
+    Widths(Run, Run, Run),
 }
 
 /// The counts of a run, and how it ended.
@@ -57,6 +60,16 @@ struct Run {
     accesses: Accesses,
     meetings: Meetings,
     end: StepsEnd,
+}
+
+impl Run {
+    /// What is compared of it.
+    fn compared(&self) -> ComparedRun<'_> {
+        ComparedRun {
+            tally: &self.tally,
+            end: self.end,
+        }
+    }
 }
 
 /// Profiles the run of a program. What the words ask for is judged first, then the source is read, and the input after it.
@@ -121,15 +134,15 @@ fn count_widths(
     requires { AreInRange profile.now.program.options }
 {
     let four = match count(rt, profile, Width::Four, false, texts) {
-        Ok(run) => run.tally,
+        Ok(run) => run,
         Err(status) => return Err(status),
     };
     let eight = match count(rt, profile, Width::Eight, false, texts) {
-        Ok(run) => run.tally,
+        Ok(run) => run,
         Err(status) => return Err(status),
     };
     match count(rt, profile, Width::Sixteen, false, texts) {
-        Ok(run) => Ok(Counted::Widths(four, eight, run.tally)),
+        Ok(sixteen) => Ok(Counted::Widths(four, eight, sixteen)),
         Err(status) => Err(status),
     }
 }
@@ -156,7 +169,7 @@ fn refuse_writing_over(rt: &HostRuntime, profile: &Profile<'_>) -> Result<(), Ex
     let Some(path) = profile.to else {
         return Ok(());
     };
-    if path == profile.program.source || profile.program.input == Some(path) {
+    if is_read(rt, path, &profile.program, None) {
         return Err(refuse_because(rt, OVER_SOURCE, path.as_bytes()));
     }
     if !profile.force && holds_something(rt, path) {
@@ -296,9 +309,10 @@ fn write_on<O: Write + Drop>(
         }
         Counted::Widths(four, eight, sixteen) => {
             let compared = Compared {
-                four,
-                eight,
-                sixteen,
+                four: four.compared(),
+                eight: eight.compared(),
+                sixteen: sixteen.compared(),
+                first_number: profile.from,
                 has_colours: is_coloured,
             };
             write_comparison(rt.alloc(), compared, texts.source.text, &mut writer)

@@ -183,7 +183,10 @@ impl Draft {
         if !has_marks || self.is_enclosed(body.as_slice()) {
             return Ok(body);
         }
-        self.enclosed(body.as_slice())
+        match self.loose_operator(body.as_slice()) {
+            Some(loose) => Err(refusal_at(loose.at, Reason::MacroBody)),
+            None => self.enclosed(body.as_slice()),
+        }
     }
 
     /// Writes the tokens of a macro's body.
@@ -207,6 +210,25 @@ impl Draft {
             }
         }
         Ok(())
+    }
+
+    /// The first operator that stands behind a value and outside all brackets, if there is one: where the macro is used, a part of its body
+    /// could belong to an operator beside it.
+    fn loose_operator(&self, tokens: &[Token]) -> Option<Token> {
+        let (mut open, mut is_behind_value) = (0usize, false);
+        for token in tokens {
+            let is_mark = token.kind == Kind::Mark;
+            match self.pool.text(token.text) {
+                b"(" | b"[" => open = open.saturating_add(1),
+                b")" | b"]" => {
+                    open = open.saturating_sub(1);
+                    is_behind_value = true;
+                }
+                _ if is_mark && is_behind_value && open == 0 => return Some(*token),
+                _ => is_behind_value = !is_mark,
+            }
+        }
+        None
     }
 
     /// Whether one pair of parentheses encloses all tokens.

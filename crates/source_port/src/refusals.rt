@@ -61,7 +61,9 @@ impl Reason {
             Reason::Bracket => "this bracket has no partner",
             Reason::Directive => "of the preprocessor only #define NAME and #pragma are read",
             Reason::MacroArguments => "macros with arguments are not read",
-            Reason::MacroBody => "a macro is read only if it stands for an expression or a type",
+            Reason::MacroBody => {
+                "a macro is read only if it stands for a type or an expression, in brackets where this has an operator"
+            }
             Reason::MacroTwice => "this macro is defined or used before",
             Reason::Constant => "a constant with at most 31 bits and a sign is wanted here",
             Reason::Size => "an array has from 1 to 1048576 elements",
