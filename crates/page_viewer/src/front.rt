@@ -14,7 +14,7 @@ fn front_0() -> &'static [u8] {
 <meta name=\"generator\" content=\"rinddecade page\">
 <meta name=\"viewport\" content=\"width=device-width, initial-scale=1\">
 <meta http-equiv=\"Content-Security-Policy\"
- content=\"default-src 'none'; script-src 'sha256-WiPBWZWEXt27SWiVOimoVGFN9hpsJPwFQpE0V/z3CR4='; style-src 'sha256-CEff1ZkjtsFfEv3VEwQ20U2REKKZdjrAoYQS1Gr3hEM='; base-uri 'none'; form-action 'none'\">
+ content=\"default-src 'none'; script-src 'sha256-WiPBWZWEXt27SWiVOimoVGFN9hpsJPwFQpE0V/z3CR4='; style-src 'sha256-wapThz8t00+wbQqq1Z8kwdXJSBHDub0ckCF8ed4wABU='; base-uri 'none'; form-action 'none'\">
 <title>A run, step by step</title>
 <style>
 :root {
@@ -96,7 +96,7 @@ tbody th.index { font-weight: normal; color: var(--faint); font-size: 11px; text
 footer { border-top: 1px solid var(--rule) }
 canvas { display: block; width: 100%; cursor: ew-resize; touch-action: none }
 footer p { margin: .25em 0 0; color: var(--faint); font-size: 12px; min-height: 1.4em }
-.unseen { position: absolute; width: 1px; height: 1px; overflow: hidden; clip-path: inset(50%) }
+.unseen { position: absolute; top: 0; margin: 0; width: 1px; height: 1px; overflow: hidden; clip-path: inset(50%) }
 kbd { font: 11px ui-monospace, monospace; border: 1px solid var(--rule); border-radius: 3px; padding: 0 .35em }
 dialog { max-width: 42em; border: 1px solid var(--rule); border-radius: 8px; background: var(--paper); color: var(--ink) }
 dl { display: grid; grid-template-columns: max-content 1fr; gap: .2em 1em; margin: .6em 0 } dd { margin: 0 }
