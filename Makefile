@@ -15,7 +15,7 @@ demo:
 	@crates/ispc_cli/out/quick examples/first.ispc < examples/first.commands | paste -d '\n' examples/first.commands - | sed '1~2s/^/> /'
 	@echo "A run as a picture, where lanes part and join: examples/lanes.svg"
 
-# Builds both programs that people call without their proofs, in a minute or two: crates/ispc_cli/out/quick and crates/rinddecade/out/quick.
+# Builds both programs that people call without their proofs, in two to four minutes: crates/ispc_cli/out/quick and crates/rinddecade/out/quick.
 # They are about as fast as the proved ones; nothing of them is proved or checked as they run.
 program:
 	@tools/needs $@ rt python3

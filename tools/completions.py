@@ -144,6 +144,7 @@ def fish(name, said, verbs, numbers):
         named = any(value == PAGES for value, _ in its.arguments)
         lines += [f"complete -c {name}{condition} -a {fish_text(' '.join(numbers))}"] if named else []
         lines += fish_options(name, its, condition)
+    lines.append(f"complete -c {name} -n '__fish_seen_subcommand_from help' -a {fish_text(' '.join(verbs))}")
     return "\n".join(lines) + "\n"
 
 

@@ -212,20 +212,8 @@ class Debugger:
     def poke(self, target, value):
         value = value_of(value)
         variable, index = self.target(target, whole_array=False)
-        low, high = (0, 1) if variable.type == "bool" else ends(variable.type)
-        if not low <= value <= high:
-            raise Refused(8)
-        if variable.is_constant:
-            raise Refused(9)
         after = self.state.copy()
-        if variable.is_array:
-            array, first, _ = after.view(variable)
-            words = list(after.memory[array])
-            words[first + index] = value
-            after.memory[array] = words
-        else:
-            words = after.words(variable)
-            after.set_words(variable, [value if index in (None, k) else it for k, it in enumerate(words)])
+        set_part(after, variable, index, value)
         self.keep("poke", after)
         name = variable.name if index is None else f"{variable.name}[{index}]"
         return f"{name} = " + self.shown(variable, index).split(" = ")[1]
@@ -281,6 +269,23 @@ class Debugger:
             if frame.call:
                 place, lanes = frame.call.place, frame.lanes
         return said
+
+
+def set_part(state, variable, index, value):
+    """Sets a variable of the file or of the top frame, or a part that it has, where it is no constant and its type has the value."""
+    low, high = (0, 1) if variable.type == "bool" else ends(variable.type)
+    if not low <= value <= high:
+        raise Refused(8)
+    if variable.is_constant:
+        raise Refused(9)
+    if variable.is_array:
+        array, first, _ = state.view(variable)
+        words = list(state.memory[array])
+        words[first + index] = value
+        state.memory[array] = words
+    else:
+        words = state.words(variable)
+        state.set_words(variable, [value if index in (None, k) else it for k, it in enumerate(words)])
 
 
 def parts_of(text):

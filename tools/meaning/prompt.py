@@ -2,10 +2,10 @@
 
 import re
 
-from .debugging import MOVES, Refused, parts_of
+from .debugging import MOVES, Refused, parts_of, set_part, value_of
 from .looks import COLUMNS, FAULTS, Looks, lines
 from .printed import text_of
-from .running import step
+from .running import State, step
 from .values import Fault
 
 MOST_TOLD, MOST_ASKED = 10, 20  # changes of a variable, and moments
@@ -15,6 +15,7 @@ REASONS = {
     "undone step": "a step is taken back",
     "undone poke": "a change by `set var` is taken back",
 }
+IS_SET = "Nothing is done: a value was set by `set var`, which going back would take back; `undo` takes it back."
 
 
 class Prompt(Looks):
@@ -39,6 +40,9 @@ class Prompt(Looks):
             if found:
                 return getattr(self, method)(*found.groups())
         raise ValueError(line)
+
+    def comment(self):
+        return []
 
     # ---- moves
 
@@ -139,8 +143,14 @@ class Prompt(Looks):
             self.back()
         return self.words_text(target), now
 
+    def is_set(self):
+        """Whether a value that was set can be taken back."""
+        return any(kind == "poke" for kind, _ in self.kept)
+
     def last(self, target):
-        """Back to the last change; where there is none, the program stands where it stood."""
+        """Back to the last change; where there is none, the program stands where it stood. Nothing is done where a value was set."""
+        if self.is_set():
+            return [IS_SET]
         stood = [*self.kept], self.state
         old, new = self.back_to_change(target)
         self.next_number += 1
@@ -151,7 +161,9 @@ class Prompt(Looks):
         return [f"{target} ={old} ->{new} by this statement:", *self.here(), *self.displays()]
 
     def changes_told(self, target, most):
-        """The last changes, the newest first; the program stands where it stood."""
+        """The last changes, the newest first; the program stands where it stood. Nothing is done where a value was set."""
+        if self.is_set():
+            return [IS_SET]
         stood, found = ([*self.kept], self.state), []
         for _ in range(int(most or MOST_TOLD)):
             old, new = self.back_to_change(target)
@@ -206,9 +218,25 @@ class Prompt(Looks):
     # ---- what is set and displayed
 
     def set_value(self, target, value):
-        """Sets a value where the top frame is selected, and shows all of what was set."""
-        self.answer(f"set var {target} = {value}")
+        """Sets a value in the frame that is selected, and shows all of what was set."""
+        if self.selected == 0:
+            self.answer(f"set var {target} = {value}")
+        else:
+            self.set_outer(target, value_of(value))
         return self.print("", target)
+
+    def set_outer(self, target, value):
+        """Sets a value in the outer frame that is selected, where the frames above it are as they were."""
+        name, index = parts_of(target)
+        variable = self.named(name)
+        if variable.is_array and index is None:
+            raise Refused(2)
+        if index is not None:
+            self.has_part(variable, index)
+        after = self.state.copy()
+        after.frames[-1 - self.selected] = self.standing().frame.copy()
+        set_part(State(self.width, after.memory, after.frames[: -self.selected]), variable, index, value)
+        self.keep("poke", after)
 
     def display(self, letter, target):
         """Shows a target, and displays it from then on: in any case where other digits are asked for, else where it is not refused."""
@@ -284,6 +312,7 @@ def reason_of(said):
 
 TARGET, LETTER, NUMBER = r"[A-Za-z_]\w*(?:\[\d+\])?", r"(?: ?(/[xtoucd]))?", r"(\d+)"
 TYPED = [
+    (r" *#.*", "comment"),
     (rf"goto {NUMBER}", "goto"),
     (rf"last ({TARGET})", "last"),
     (r"when (?!-a)(.+)", "when"),

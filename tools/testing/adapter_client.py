@@ -33,6 +33,12 @@ from .tried import Result
 SECONDS = 60
 
 
+def framed(message):
+    """A message behind its head."""
+    text = json.dumps(message).encode()
+    return b"Content-Length: %d\r\n\r\n%s" % (len(text), text)
+
+
 class Client:
     def __init__(self, command):
         self.command = command
@@ -54,8 +60,7 @@ class Client:
         self.process.stdin.flush()
 
     def write_message(self, message):
-        text = json.dumps(message).encode()
-        self.write(b"Content-Length: %d\r\n\r\n%s" % (len(text), text))
+        self.write(framed(message))
 
     def read_message(self):
         head = b""
@@ -411,10 +416,13 @@ INCOMPLETE = [
     ("goto", {"targetId": 2**33}, "targetId"),
     ("setExpression", {"value": "7"}, "expression"),
     ("setExpression", {"expression": "x"}, "value"),
+    ("setExpression", {"expression": "x", "value": "7", "frameId": "1"}, "frameId"),
     ("completions", {"column": 1}, "text"),
     ("completions", {"text": "x"}, "column"),
+    ("completions", {"text": "x", "column": 1, "frameId": [1]}, "frameId"),
     ("evaluate", {}, "expression"),
     ("evaluate", {"expression": ["x"]}, "expression"),
+    ("evaluate", {"expression": "x", "frameId": "2"}, "frameId"),
 ]
 
 
@@ -432,6 +440,7 @@ def wrong_requests(client, examples):
     for raw, name in [
         (b"Content-Length: 3\r\n\r\n\xff{]", "NoJson"),
         (b"Content-Length: 2\r\n\r\n{}", "NoRequest"),
+        *[(framed({"seq": 1, "command": "next", **it}), "NoRequest") for it in ({"type": "response"}, {"type": "Request"}, {"type": None}, {})],
         (b"Content-Length: x\r\n\r\n", "BadLength"),
         (b"Length\r\n\r\n", "BadHeader"),
         (b"Content-Type: json\r\n\r\n", "NoLength"),

@@ -134,27 +134,28 @@ def hexadecimal_values(client, width):
         same(typed(client, "p/x even", 1, **HEX), row(digits("x", "bool", lane % 2 == 0) for lane in lanes))
         same(client.ask("setVariable", variablesReference=local, name="deep", value="-2", **HEX)["value"], "0xfe")
         same(client.ask("setExpression", expression="k[1]", value="-1", frameId=3, **HEX)["value"], "0xffffffff")
+        same(client.ask("setExpression", expression="k[1]", value="-2", frameId=2, **HEX)["value"], "0xfffffffe")
         same(client.ask("setVariable", variablesReference=file, name="total", value="9")["value"], "9")
         client.end()
 
 
-# ---- values that are only looked at
+# ---- values that can be set
 
 
-def looked_at(client, width):
-    """Variables of an outer frame and their lanes are told as such that are only read; those of the top frame and of the file can be set."""
+def settable(client, width):
+    """No variable of a frame or of the file, and none of its lanes and elements, is told as one that is only read."""
     hints = lambda reference: [it["presentationHint"]["attributes"] for it in client.variables(reference).values()]
     with written(RECURSION) as source:
         at_depth_3(client, source, width)
-        for depth, attributes in ((3, []), (2, ["readOnly"]), (1, ["readOnly"])):
+        for depth in (3, 2, 1):
             local, arguments, file = client.scopes(depth)
-            same(hints(local), [attributes] * (3 if depth == 1 else 2))
-            same(hints(arguments), [attributes] * (0 if depth == 1 else 1))
+            same(hints(local), [[]] * (3 if depth == 1 else 2))
+            same(hints(arguments), [[]] * (0 if depth == 1 else 1))
             same(hints(file), [[]] * 3)
             name = "x" if depth == 1 else "r"
-            same(hints(client.variables(local)[name]["variablesReference"]), [attributes] * width)
+            same(hints(client.variables(local)[name]["variablesReference"]), [[]] * width)
             same(hints(client.variables(file)["table"]["variablesReference"]), [[]] * 5)
         client.end()
 
 
-FORMAT_CHECKS = [check for it in (prints_of_each_frame, formats_in_each_frame, formats_of_waiting_lanes, hexadecimal_values, looked_at) for check in at_widths(it)]
+FORMAT_CHECKS = [check for it in (prints_of_each_frame, formats_in_each_frame, formats_of_waiting_lanes, hexadecimal_values, settable) for check in at_widths(it)]

@@ -28,7 +28,7 @@ export void go() {
 """
 NO_NAME = "S5 UnknownName, column 1: no variable of this name is in scope in this frame or of the file"
 NO_FRAME = "no frame has this number now"
-NOT_SET = "only a variable of the top frame or of the file can be set"
+NOT_SET = "only a variable of a frame or of the file can be set"
 NO_REFERENCE = "nothing has this reference now"
 
 
@@ -85,7 +85,7 @@ def own_variables(width):
 
 
 def outer_frames(client, examples):
-    """In an outer frame names are looked up and nothing is set; a frame that is not there is refused, as is its reference."""
+    """In an outer frame names are looked up; a frame that is not there is refused, as is its reference, and nothing is set there."""
     with written(RECURSION) as source:
         at_depth_3(client, source, 4)
         same(client.value("x", 1), "0 3 6 9")
@@ -98,10 +98,9 @@ def outer_frames(client, examples):
         for number in (0, 4, 2**31):
             same(client.refused("scopes", frameId=number), NO_FRAME)
             same(client.refused("evaluate", expression="x", frameId=number), NO_FRAME)
+            same(client.refused("setExpression", expression="k", value="9", frameId=number), NOT_SET)
+            same(client.refused("evaluate", expression="set var k = 9", context="repl", frameId=number), NO_FRAME)
         outer = client.scopes(2)[1]
-        same(client.refused("setVariable", variablesReference=outer, name="k", value="9"), NOT_SET)
-        part = client.variables(outer)["k"]["variablesReference"]
-        same(client.refused("setVariable", variablesReference=part, name="k[0]", value="9"), NOT_SET)
         top = client.scopes(3)[1]
         same(client.ask("setVariable", variablesReference=top, name="k", value="1")["value"], "1 1 1 1")
         same((client.value("k", 3), client.value("k", 2)), ("1 1 1 1", "0 1 0 1"))
@@ -111,8 +110,102 @@ def outer_frames(client, examples):
         client.move("stepOut")
         same(len(client.place()), 2)
         same(client.refused("variables", variablesReference=top), NO_REFERENCE)
+        same(client.refused("setVariable", variablesReference=top, name="k", value="9"), NOT_SET)
         same(client.refused("scopes", frameId=3), NO_FRAME)
         same(client.values(outer), {"k": "0 1 0 1"})
+        client.end()
+
+
+def values_in_frames(client, frames):
+    """The parameter `k` and the local variable `deep` of the frames at some depths."""
+    return {depth: (client.value("k", depth), client.value("deep", depth)) for depth in frames}
+
+
+def sets_in_frames(client, examples):
+    """A value is set in the frame that is asked for and in no other one, is told as it is there, and is taken back with the step before it."""
+    with written(RECURSION) as source:
+        at_depth_3(client, source, 4)
+        before = values_in_frames(client, (2, 3))
+        same(before, {2: ("0 1 0 1", "-5"), 3: ("1 2 1 2", "-5")})
+        local, arguments, _ = client.scopes(2)
+        parts = client.variables(arguments)["k"]["variablesReference"]
+        given = lambda reference, name, value: client.ask("setVariable", variablesReference=reference, name=name, value=value)["value"]
+        same(given(local, "deep", "7"), "7")
+        same(given(arguments, "k", "9"), "9 9 9 9")
+        same(given(parts, "k[2]", "-4"), "-4")
+        same(client.ask("setExpression", expression="k[1]", value="5", frameId=2)["value"], "5")
+        same(values_in_frames(client, (2, 3)), {2: ("9 5 -4 9", "7"), 3: before[3]})
+        same(client.values(parts), {"k[0]": "9", "k[1]": "5", "k[2]": "-4", "k[3]": "9"})
+        same(given(client.scopes(1)[0], "y", "-6"), "-6")
+        same(client.ask("setExpression", expression="x", value="8", frameId=1, format={"hex": True})["value"], "0x8 0x8 0x8 0x8")
+        same((client.value("x", 1), client.value("y", 1)), ("8 8 8 8", "-6"))
+        same(client.refused("setVariable", variablesReference=local, name="deep", value="128"), "C8 OutOfRange")
+        same(client.refused("setVariable", variablesReference=parts, name="k[4]", value="1"), "C8 OutOfRange")
+        same(client.refused("setExpression", expression="x", value="1", frameId=2), "C2 NoSuchName")
+        same(client.refused("setExpression", expression="k + 1", value="1", frameId=2), "C1 BadCommand")
+        same(client.ask("setExpression", expression="total", value="-8", frameId=2)["value"], "-8")
+        same([client.value("total", depth) for depth in (1, 2, 3)], ["-8"] * 3)
+        same(values_in_frames(client, (3,)), {3: before[3]})
+        client.move("stepBack")
+        same(len(client.place()), 3)
+        same(values_in_frames(client, (2, 3)), before)
+        same((client.value("x", 1), client.value("y", 1), client.value("total")), ("0 3 6 9", "5", "7"))
+        client.end()
+
+
+def console_sets_in_frames(client, examples):
+    """`set var` in the console sets the variable of the frame that is looked at, and is told that frame's values; `undo` takes that back."""
+    with written(RECURSION) as source:
+        at_depth_3(client, source, 4)
+        typed = lambda line, **others: client.ask("evaluate", expression=line, context="repl", **others)
+        before = values_in_frames(client, (2, 3))
+        told = typed("set var k = 9", frameId=2)
+        same((told["result"], client.values(told["variablesReference"])), ("k = 9 9 9 9", {f"k[{lane}]": "9" for lane in range(4)}))
+        same(values_in_frames(client, (2, 3)), {2: ("9 9 9 9", "-5"), 3: before[3]})
+        told = typed("set k[1] = 7", frameId=2)
+        same((told["result"], told["variablesReference"]), ("k[1] = 7", 0))
+        same(typed("set var deep = -1", frameId=2, format={"hex": True})["result"], "0xff")
+        same(values_in_frames(client, (2, 3)), {2: ("9 7 9 9", "-1"), 3: before[3]})
+        same(typed("undo", frameId=2)["result"], "undone poke: at 8:5 f depth 3 lanes 1111")
+        client.event("stopped")
+        same(client.value("deep", 2), "-5")
+        same(typed("set var even = true", frameId=1)["result"], "even = true true true true")
+        same(client.refused("evaluate", expression="set var x = 1", context="repl", frameId=2), "C2 NoSuchName")
+        same(client.refused("evaluate", expression="set var k[4] = 1", context="repl", frameId=2), "C8 OutOfRange")
+        for frame in ({}, {"frameId": 3}):
+            same(typed("set var k = 4", **frame)["result"], "k = 4 4 4 4")
+            same((client.value("k", 3), client.value("k", 2)), ("4 4 4 4", "9 7 9 9"))
+            same(typed("set var k = 3", **frame)["result"], "k = 3 3 3 3")
+        client.end()
+
+
+# At the call of `f` in line 7 the variable `x` of `go` is set: `f` has its own copy, and line 8 adds the new value.
+CALLED = """int f(int k) {
+    return k + 1;
+}
+export void go() {
+    const int most = 4;
+    int x = programIndex;
+    int y = f(x);
+    x = x + y;
+}
+"""
+
+
+def goes_on_with_what_is_set(client, examples):
+    """The program goes on with a value that was set in an outer frame; a constant is not set there either."""
+    with written(CALLED) as source:
+        client.launch(source)
+        client.breakpoints(2, 9)
+        client.begin()
+        client.move("continue")
+        same([it[0] for it in client.place()], [2, 7])
+        same(client.ask("setExpression", expression="x", value="10", frameId=1)["value"], "10 10 10 10")
+        same(client.refused("setExpression", expression="most", value="7", frameId=1), "C9 Constant")
+        same(client.refused("evaluate", expression="set var most[1] = 7", context="repl", frameId=1), "C9 Constant")
+        same((client.value("k", 2), client.value("x", 1), client.value("most", 1)), ("0 1 2 3", "10 10 10 10", "4 4 4 4"))
+        client.move("continue")
+        same((client.value("y"), client.value("x")), ("1 2 3 4", "11 12 13 14"))
         client.end()
 
 
@@ -165,4 +258,4 @@ def texts_with_braces(client, examples):
         client.end()
 
 
-FRAME_CHECKS = [own_variables(4), own_variables(8), own_variables(16), outer_frames, references, frames_by_pieces, texts_with_braces]
+FRAME_CHECKS = [own_variables(4), own_variables(8), own_variables(16), outer_frames, sets_in_frames, console_sets_in_frames, goes_on_with_what_is_set, references, frames_by_pieces, texts_with_braces]

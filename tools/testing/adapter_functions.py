@@ -30,7 +30,7 @@ export void go() {
 # The first lines of the functions, the line of the sum, and the one behind it.
 TWICE, NOTHING, GO, SUM, BEHIND = 3, 7, 9, 12, 13
 NO_FUNCTION = "no function of this name"
-UNPLACED = "its line, name or target is missing or of a wrong type"
+UNPLACED = "its line is no number from 1 to 4294967295, or its name or target is no text"
 NO_MESSAGE = "only a breakpoint of a line has a log message"
 
 

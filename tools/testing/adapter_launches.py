@@ -115,15 +115,15 @@ def no_breakpoints(client, examples):
     client.begin()
     asked = [
         {"line": 2, "condition": 1}, {"line": 3}, {"line": 3, "hitCondition": ">2"}, {"line": 3, "logMessage": 7}, {"line": "3"},
-        {}, {"line": -1}, {"line": 2**32}, {"line": 50}, {"line": 4, "condition": None}, {"line": 2, "condition": "x" * 257},
+        {}, {"line": -1}, {"line": 2**32}, {"line": 0}, {"line": 50}, {"line": 4, "condition": None}, {"line": 2, "condition": "x" * 257},
         {"line": 2, "hitCondition": "0"}, {"line": 2, "hitCondition": "10000001"}, {"line": 2, "hitCondition": 2}, {"line": 2, "logMessage": "x" * 257},
     ]
     found = client.ask("setBreakpoints", source={"path": client.source}, breakpoints=asked)["breakpoints"]
-    unplaced = "its line, name or target is missing or of a wrong type"
+    unplaced = "its line is no number from 1 to 4294967295, or its name or target is no text"
     condition, count = "its condition is no text of at most 256 bytes", "its count is no number from 1 to 10000000"
     message = "its log message is no text of at most 256 bytes"
     same([it.get("message") for it in found], [
-        condition, None, count, message, unplaced, unplaced, unplaced, unplaced,
+        condition, None, count, message, unplaced, unplaced, unplaced, unplaced, unplaced,
         "no step stands on this line or behind it", None, condition, count, count, count, message,
     ])
     same([it["line"] for it in found if it["verified"]], [3, 4])

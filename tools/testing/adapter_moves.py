@@ -77,7 +77,7 @@ def goes_by_breakpoints(client, examples):
 
 
 def sets_expressions(client, examples):
-    """What an expression names in the top frame is set; in another frame nothing is."""
+    """What an expression names in a frame is set; where no frame is there, nothing is."""
     client.launch(examples / "first.ispc")
     client.begin()
     client.move("next")

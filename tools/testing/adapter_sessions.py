@@ -39,7 +39,10 @@ LINES = (
     "reverse-continue", "reverse-finish", "undo", "set var {0} = 3", "watch {0}", "break 3", "delete 1", "quit", "help", "step 3",
 )
 RAW = (b"Content-Length: 3\r\n\r\n\xff{]", b"Content-Length: 2\r\n\r\n{}", b"Content-Length: x\r\n\r\n", b"Content-Type: json\r\n\r\n", b"Length\r\n\r\n")
-NO_REQUESTS = ({"seq": 1}, {"command": "next"}, {"seq": "1", "command": "next"}, {"seq": -1, "command": "next"}, {"seq": 1.5, "command": "next"}, [], 7)
+NO_REQUESTS = (
+    *({"type": "request", **it} for it in ({"seq": 1}, {"command": "next"}, {"seq": "1", "command": "next"}, {"seq": -1, "command": "next"}, {"seq": 1.5, "command": "next"})),
+    *({"seq": 1, "command": "next", **it} for it in ({}, {"type": "response"}, {"type": "Request"}, {"type": 7})), [], 7,
+)
 
 
 class Session:

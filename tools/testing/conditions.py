@@ -33,7 +33,8 @@ SUM, ROUNDS = 7, 100
 
 def lanes(width, holds):
     """How the lanes are told in which a condition holds."""
-    return " ".join(["holds in lanes", *(str(lane) for lane in range(width) if holds(lane))])
+    found = [str(lane) for lane in range(width) if holds(lane)]
+    return " ".join(["holds in lane" if len(found) == 1 else "holds in lanes", *found])
 
 
 def passed(count):

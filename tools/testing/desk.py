@@ -162,6 +162,7 @@ def marks():
 
 def unread_files():
     folder = {"folder/first.ispc": FIRST}
+    odd = {"first.ispc": FIRST, "odd.commands": b"step\n\ngo  on\nstep\n", "quits.commands": b"step\nquit\ngo  on\n"}
     large = {"first.ispc": FIRST, "large.commands": b"\n" * (MOST_COMMANDS + 1), "most.commands": b"step\n".ljust(MOST_COMMANDS, b"\n")}
     return [
         told("a source that is not there", ["missing.ispc"], b"cannot read missing.ispc: there is no such file\n", {}),
@@ -178,6 +179,11 @@ def unread_files():
             2,
             large,
         ),
+        *(
+            Run(f"commands of which one spells none, {verb}", b"", [verb, "first.ispc", "--commands", "odd.commands"], b"", b"error: --commands: no command of the debugger is spelled so: go  on\n", 2, odd)
+            for verb in ("picture", "page")
+        ),
+        Run("commands of which one behind quit spells none", b"", ["picture", "first.ispc", "--commands", "quits.commands"], begins_with(PICTURE), b"", 0, odd),
         Run("the most commands", b"", ["picture", "first.ispc", "--commands", "most.commands"], begins_with(PICTURE), b"", 0, large),
     ]
 
@@ -274,10 +280,13 @@ def of_written_files(built):
         ("the source", ["--to", "first.ispc"], "first.ispc", FIRST, None),
         ("the source, by --force", ["--to", "first.ispc", "--force"], "first.ispc", FIRST, None),
         ("the source by another path", ["--to", "./first.ispc"], "first.ispc", FIRST, None),
+        ("the source by another path, by --force", ["--to", "./first.ispc", "--force"], "first.ispc", FIRST, None),
         ("the commands, by --force", ["--commands", "go.commands", "--to", "go.commands", "--force"], "go.commands", b"step\n", None),
+        ("the commands by another path, by --force", ["--commands", "go.commands", "--to", ".//go.commands", "--force"], "go.commands", b"step\n", None),
     ]
     found = [written(built, name, words, file, before, front) for name, words, file, before, front in rows]
-    found += [written_twice(built, "new.svg"), written_twice(built, "new.html"), folder_as_file(built)]
+    found += [linked(built, verb, link) for verb in ("picture", "page", "profile", "port") for link in (os.symlink, os.link)]
+    found += [ended_by_two(built), written_twice(built, "new.svg"), written_twice(built, "new.html"), folder_as_file(built)]
     return found + [as_on_output(built, words) for words in TO_FILES]
 
 
@@ -299,6 +308,27 @@ def written(built, name, words, file, before, front):
     else:
         is_right = (ran.returncode, ran.stdout, ran.stderr) == (0, b"", b"") and after.startswith(front)
     return Result(f"a picture to {name}", is_right, [f"status {ran.returncode}, {ran.stderr!r}, {after[:100]!r}"])
+
+
+def linked(built, verb, link):
+    """What is written goes by --force over no other name of the source."""
+    with tempfile.TemporaryDirectory(prefix="desk-") as folder:
+        path = pathlib.Path(folder, "first.ispc")
+        path.write_bytes(FIRST)
+        link(path, pathlib.Path(folder, "other.svg"))
+        ran = subprocess.run([built, verb, "first.ispc", "--to", "other.svg", "--force"], cwd=folder, env={}, stdin=subprocess.DEVNULL, capture_output=True)
+        is_right = ran.returncode == 2 and ran.stderr.startswith(b"error: ") and path.read_bytes() == FIRST
+    return Result(f"{verb} over another name of its source, made by {link.__name__}", is_right, [f"status {ran.returncode}, {ran.stderr!r}"])
+
+
+def ended_by_two(built):
+    """A page of a source whose lines end by a carriage return and a line feed is that of the source with line feeds alone."""
+    pages = []
+    for text in (FIRST, FIRST.replace(b"\n", b"\r\n")):
+        with tempfile.TemporaryDirectory(prefix="desk-") as folder:
+            pathlib.Path(folder, "first.ispc").write_bytes(text)
+            pages.append(subprocess.run([built, "page", "first.ispc"], cwd=folder, env={}, stdin=subprocess.DEVNULL, capture_output=True).stdout)
+    return Result("a page of lines that end by two characters", pages[0] == pages[1] != b"", [f"{len(it)} bytes" for it in pages])
 
 
 def written_twice(built, file):

@@ -280,14 +280,17 @@ def of_held(width):
 
 
 def of_values(width):
-    """Where a value was set: `last` says that it is taken back, and `changes` does nothing."""
-    lines = ["break 25", "run", "set var i = 9", "changes i", "last w", "print i", "last", "changes", "changes table", "last x[99]", "last nobody"]
+    """Where a value was set: `last` and `changes` do nothing, of whatever variable, until it is taken back."""
+    lines = ["break 25", "run", "set var i = 9", "changes i", "last i", "last w", "last table[2]", "print i", "undo", "last w", "print i", "last", "changes", "changes table", "last x[99]", "last nobody"]
+    refused = ("Nothing is done: a value was set by `set var`, which going back would take back; `undo` takes it back.\n", "!has had its value", "!by this statement")
     wanted = [
         ("breakpoint 1 at line 25",),
         ("breakpoint 1:",),
         ("i = 9\n",),
-        ("Nothing is done: a value was set",),
-        (changed("w", by_lane(width, lambda lane: 0), by_lane(width, lambda lane: 0 if lane > 1 else -300)), "What `set var` set since then is taken back.\n"),
+        *[refused] * 4,
+        ("i = 9\n",),
+        ("a change by `set var` is taken back:", "i = 9 -> 0\n"),
+        (changed("w", by_lane(width, lambda lane: 0), by_lane(width, lambda lane: 0 if lane > 1 else -300)), *at(23, width, in_other_arm)),
         ("i = 0\n",),
         ("C1 BadCommand: A variable, a lane or an element follows `last`",),
         ("C1 BadCommand: A variable, a lane or an element follows `changes`",),

@@ -88,7 +88,7 @@ def many():
     wanted = ["----", f"${count} = {count * 2}", "$31 = 62", "$31 = 62", *listed(count - LISTED + 1, count + 1), *listed(75, 85), *listed(31, 38), *listed(123, 131)]
     for name in ("$30", f"$${MOST}", "$0", "$500"):
         typed += [f"p {name}"]
-        wanted += [f"There is no value {name}: {count} were printed, and the last {MOST} are kept."]
+        wanted += [f"There is no value {name}: values printed so far: {count}, and the last {MOST} are kept."]
     return asks("more values than are kept", typed, wanted)
 
 

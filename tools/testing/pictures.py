@@ -183,7 +183,7 @@ def run_of(root, name):
 
 
 # Command lines that lead two steps on.
-LED = {"one line": b"step 2\n", "lines without their end": b"step\nnothing\n\nundo\nstep\nstep", "up to quit": b"step\nstep\nquit\nstep\n"}
+LED = {"one line": b"step 2\n", "lines without their end": b"step\n\nundo\nstep\nstep", "up to quit": b"step\nstep\nquit\nstep\n"}
 
 
 def other_runs():

@@ -79,7 +79,12 @@ GIVES = [
 REFUSED = [
     ("#include \"a.isph\"\n", "1:1", "#define NAME and #pragma"),
     ("#define F(x) x\nexport void go() { }\n", "1:9", "macros with arguments"),
-    ("#define N { 1 }\nexport void go() { }\n", "1:11", "stands for an expression"),
+    ("#define N { 1 }\nexport void go() { }\n", "1:11", "stands for a type or an expression"),
+    ("#define N 2 + 3\nexport void go() { int x = 2 * N; }\n", "1:13", "in brackets where this has an operator"),
+    ("#define N -1 - 1\nexport void go() { }\n", "1:14", "in brackets where this has an operator"),
+    ("#define N (1) << 4\nexport void go() { }\n", "1:15", "in brackets where this has an operator"),
+    ("#define N programIndex > 1 ? 5 : 6\nexport void go() { }\n", "1:24", "in brackets where this has an operator"),
+    ("#define TWICE 2 *\nexport void go() { }\n", "1:17", "in brackets where this has an operator"),
     ("#define N 1\n#define N 2\n", "2:9", "defined or used before"),
     ("float f(float x) { return x; }\n", "1:1", "this type is not read"),
     ("export void go() { float x = 1; }\n", "1:20", "this type is not read"),

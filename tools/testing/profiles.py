@@ -215,7 +215,8 @@ def wanted_comparison(runs):
     column = lambda row: f"{row['steps']:10}{row['share']:6.1f}%" if row["steps"] else "         -      -"
     for number in sorted(set().union(*(it.lines() for it in runs))):
         text += f"{number:5}" + "".join(column(it.counts(lambda step: step[0] == number)) for it in runs) + f"  {source[number - 1].lstrip()[:40]}\n"
-    return (text + "  all" + "".join(column(it.all()) for it in runs) + "\n").encode()
+    ends = "".join(f"{width:2} lanes: {it.told_end()}" for width, it in zip(WIDTHS, runs))
+    return (text + "  all" + "".join(column(it.all()) for it in runs) + "\n" + ends).encode()
 
 
 # ---- runs
@@ -375,10 +376,13 @@ def hostile_runs():
     data = {"hostile.ispc": HOSTILE, "odd\".ispc": EMPTY.encode()}
     lines = [b"export void go() { // \xff??[31m", b"int x = 1;\t// \t\"\\", b"x = 2; // 45678901234567890123456789012345678\n", b"x = 3; // 45678901234567890123456789012345678901\n"]
     json_of = lambda name: lambda text: [] if json.loads(text.decode(errors="surrogateescape"))["source"] == name else ["the source has another name"]
+    counted, ends = Counted(MIXED, {"width": 4}, 10_000_000), {"mixed.ispc": MIXED.replace("\n", "\r\n").encode()}
     shown = has_words(b"     1  " + lines[0] + b"\n", b"     2  \t" + lines[1] + b"\n")
     return [
         Run("profile of a hostile source, its lines", b"", ["profile", "hostile.ispc"], has_words(*lines[1:2], lines[3]), b"", data=data),
         Run("profile of a hostile source, annotated", b"", ["profile", "hostile.ispc", "--annotate"], shown, b"", data=data),
+        Run("profile of lines that end by two characters", b"", ["profile", "mixed.ispc"], wanted_lines(counted, 20), b"", data=ends),
+        Run("profile of lines that end by two characters, annotated", b"", ["profile", "mixed.ispc", "--annotate"], wanted_annotated(counted), b"", data=ends),
         Run("profile of a name with a quote", b"", ["profile", 'odd".ispc', "--json"], json_of('odd".ispc'), b"", data=data),
     ]
 
@@ -428,6 +432,8 @@ def file_runs():
     return [
         run("over its source", ["--to", "mixed.ispc"], over, 2),
         run("over its source by force", ["--to", "mixed.ispc", "--force"], over, 2),
+        run("over its source by another path", ["--to", "./mixed.ispc", "--force"], has_words(b"what it is made from: ./mixed.ispc"), 2),
+        run("over its input by another path", ["--to", "./held.txt", "--input", "held.txt", "--force"], has_words(b"what it is made from: ./held.txt"), 2),
         run("over its input", ["--to", "held.txt", "--input", "held.txt", "--force"], has_words(b"what it is made from: held.txt"), 2),
         run("over a file", ["--to", "held.txt"], holds, 2),
         run("over a file by force", ["--to", "held.txt", "--force"]),

@@ -27,6 +27,7 @@ HABITS, LEADS_TO, SILENCE, USAGE = "sessions/prompts/typed.lines", " => ", "(sil
 MARK = "echo ----"
 TYPED = re.compile(r"^\| (`[^|]*`) \|", re.M)
 UNKNOWN = b"there is no such command"
+TOO_LONG = b"C1 BadCommand: a line of commands has at most 256 bytes"
 SOURCE = b"""uniform int total = 0;
 uniform int table[4];
 
@@ -158,7 +159,7 @@ def runs(root):
     """A run for each session, and one for each line that users of GDB type."""
     page = [Run(f"{PAGE}: {line}", as_bytes([line]), ["debug", "go.ispc"], is_known, b"", data={"go.ispc": SOURCE}) for line in typed(root)]
     habits = Habits(root)
-    return [it.run() for it in sessions(root)] + page + [habits.run(*row) for row in habits.rows] + [checkpoints()] + digits.runs() + printing.runs() + asking.runs() + returning.runs() + numbering.runs() + listing.runs()
+    return [it.run() for it in sessions(root)] + page + [habits.run(*row) for row in habits.rows] + [checkpoints(), *long_lines()] + digits.runs() + printing.runs() + asking.runs() + returning.runs() + numbering.runs() + listing.runs()
 
 
 def checkpoints():
@@ -170,6 +171,20 @@ def checkpoints():
     shown_then = noted + full + b"noted no more\ncheckpoint 65 at step 0\n" + listed
     judge = lambda text: [] if text.endswith(shown_then) else ["64 checkpoints are not noted, or more are:", *shown(text)]
     return Run("64 checkpoints are noted, and no more", lines, ["debug", "go.ispc"], judge, b"", data={"go.ispc": SOURCE})
+
+
+def long_lines():
+    """A line that stands for a command line of 256 bytes is done, and one that stands for a byte more is told to be too long."""
+    return [long_line(*row) for row in (("p ", "print  "), ("print ", "print  "), ("p/x ", "print/x  "), ("display ", "print  "))]
+
+
+def long_line(typed, own):
+    """A sum behind such words, which has 256 bytes with the words that they stand for, and one with a byte more."""
+    room = 256 - len(own)
+    fitting = "+".join(["1"] * (room // 2)).rjust(room, "1")
+    judge = lambda text: [] if [TOO_LONG in it for it in text.split(b"----\n")[1:3]] == [False, True] else ["the limit is another one:", *shown(text)]
+    lines = as_bytes([MARK, typed + fitting, MARK, f"{typed}1{fitting}", MARK])
+    return Run(f"a long line behind {typed}", lines, ["debug", "go.ispc"], judge, b"", data={"go.ispc": SOURCE})
 
 
 def results(program):

@@ -104,13 +104,16 @@ class Typed:
         return chance.choice(forward * 2 + back + there)
 
     def last(self):
-        """What changed a variable, where no stop and no value that was set is on the way."""
-        is_clear = not self.prompt.stops and all(kind == "step" for kind, _ in self.prompt.kept)
-        names = [it.name for it in self.prompt.program.globals if not it.is_array] * 2 + [f"gb[{at}]" for at in range(5)]
-        name = self.chance.choice(names)
-        if is_clear and self.chance.random() < 0.6 and len(self.prompt.moments()) < STEPS:
+        """What changed a variable, where no stop is on the way; or, of whatever variable, where a value was set and nothing is done."""
+        prompt, is_set = self.prompt, self.prompt.is_set()
+        if prompt.stops and not is_set:
+            return []
+        if not is_set and self.chance.random() < 0.6 and len(prompt.moments()) < STEPS:
             return [f"when {letter}{Expressions(self.chance, []).one()}" for letter in ("", "-a ")]
-        return [f"last {name}", f"changes {name}", f"changes {name} {self.chance.randrange(1, 4)}"] if is_clear else []
+        names = [it.name for it in prompt.program.globals if not it.is_array] * 2 + [f"gb[{at}]" for at in range(5)]
+        names += [it.name for it in prompt.standing().scope] * 4 if is_set and prompt.state.frames else []
+        name = self.chance.choice(names)
+        return [f"last {name}", f"changes {name}", f"changes {name} {self.chance.randrange(1, 4)}"]
 
     def look(self):
         chance, it = self.chance, self.prompt.standing()
@@ -120,10 +123,11 @@ class Typed:
         arrays = ("gl", "gl", "gm", "ga")
         part = f"{chance.choice(arrays)}{chance.choice(('', f'[{chance.randrange(40)}]'))}@{chance.choice((1, 7, 17, 40))}"
         found = [f"print{letter} {self.target(names)}"] * 4 + [f"print{letter} {part}", f"print{letter} {chance.choice(arrays)}"]
+        found += ["# step", "  # print 1"] * 2 if chance.random() < 0.5 and not is_refused(self.wanted[-1:]) else []
         found += ["info locals", "info args", "info line", "backtrace", f"backtrace {chance.randrange(1, 4)}", "backtrace full"]
         found += [f"whatis {self.target(names)}"]
         found += [f"print{letter} {Expressions(chance, scope).one()}"] * 4 if it else []
-        found += [f"set var {self.target(names)} = {chance.randrange(-3, 9)}"] * 3 if it and self.prompt.selected == 0 else []
+        found += [f"set var {self.target(names)} = {chance.randrange(-3, 9)}"] * (9 if self.prompt.selected else 3) if it else []
         found += self.lists() if self.prompt.selected == 0 and chance.random() < 0.3 else []
         return chance.choice([*found, "info variables", f"display{letter} {chance.choice(names)}"])
 
