@@ -1,6 +1,6 @@
 -- Each frame was made for some lane: a run begins so, and each step and poke keeps it.
-use Rattle.std.proofs.Common.{ℕ, zero, suc, ◌<◌, ◌≡◌, refl, sym, ◌∙◌, ap, subst, true, false, arith, List, [], ◌∷◌, length, Option, Some, None}
-use Rattle.std.specs.Prelude.{Err, IfOk, Ok, Result, map, replicate, slice_get, ◌==◌}
+use Rattle.std.proofs.Common.{ℕ, zero, suc, ◌-◌, ◌<◌, ◌≡◌, refl, sym, ◌∙◌, ap, subst, true, false, arith, List, [], ◌∷◌, ◌++◌, length, Option, Some, None}
+use Rattle.std.specs.Prelude.{drop, take, Err, IfOk, Ok, Result, map, replicate, slice_get, ◌==◌}
 use Rattle.undo_log.specs.History.{History}
 use Rattle.gang_types.specs.declared.faults.FaultName.TheVariants.{CallDepth}
 use Rattle.gang_types.specs.declared.places.VarId.{VarId}
@@ -16,7 +16,8 @@ use Rattle.gang_model.specs.Running.Rounds.{Turn, rounds}
 use Rattle.gang_model.specs.Running.State.{Frame, State, Store, view_of, with_var, with_words_in}
 use Rattle.gang_model.specs.Running.Step.{Passed, ToElements, deliver, entered, initial, left, old_values, part, passed, returned_on, run, with_store, write}
 use Rattle.gang_model.specs.Running.Value.{value}
-use Rattle.gang_model.specs.Debugger.Events.{ElementAt, LaneOf, Poked, Row, WholeOf, poked, started, with_rows}
+use Rattle.gang_model.specs.Debugger.Frames.{state_at}
+use Rattle.gang_model.specs.Debugger.Events.{ElementAt, InFrame, LaneOf, Poked, Row, WholeOf, poked, started, with_rows}
 use Rattle.gang_model.proofs.LaneWords.{if_ok_after, if_ok_bind, if_or_ok}
 use Rattle.mask_states.specs.Points.{Begin, Branch, Choose, Enter, Go, Point, Put, Turn as TakeTurn, points_in}
 use Rattle.mask_states.specs.Masked.{Level, Masked, next_in, next_waiting}
@@ -51,11 +52,19 @@ pub store_called : (store : Store) (state : State) → HaveLanes state.frames �
 store_called [] state h = h
 store_called (entry ∷ store) state h = store_called store (with_words_in state entry.0 entry.1) (words_called state entry.0 entry.1 h)
 
+-- frames under others have lanes where those under them do
+pub under_called : (n : ℕ) (frames below : List Frame) → HaveLanes frames → (HaveLanes (drop n frames) → HaveLanes below) → HaveLanes (take n frames ++ below)
+under_called zero frames below h k = k h
+under_called (suc n) [] below h k = k tt
+under_called (suc n) (frame ∷ frames) below h k = (h.0, under_called n frames below h.1 k)
+
 -- a poke keeps each frame's lanes
 pub poked_called : (what : Poked) (word : ℕ) (state : State) → HaveLanes state.frames → HaveLanes (poked what word state).frames
 poked_called (WholeOf v) word state h = words_called state v _ h
 poked_called (LaneOf v k) word state h = words_called state v _ h
 poked_called (ElementAt v k) word state h = h
+poked_called (InFrame deep what) word state h =
+    under_called (length state.frames - deep) state.frames (poked what word (state_at deep state)).frames h (λ below. poked_called what word (state_at deep state) below)
 
 untasked_called : (frames : List Frame) → HaveLanes frames → HaveLanes (map untasked_frame frames)
 untasked_called [] h = tt

@@ -1,6 +1,6 @@
 -- Each state of a run is one of its gang, as the law of lane-pure functions asks: from the start, after each step and each poke.
-use Rattle.std.proofs.Common.{◌≡◌, refl, ap, ◌∙◌, subst, ℕ, zero, suc, ◌+◌, ◌≤◌, Bool, true, false, List, [], ◌∷◌, length, drop, arith}
-use Rattle.std.specs.Prelude.{slice_get, replicate, Option, Some, None, if◌then◌else◌}
+use Rattle.std.proofs.Common.{◌≡◌, refl, ap, ◌∙◌, subst, ℕ, zero, suc, ◌+◌, ◌-◌, ◌≤◌, Bool, true, false, List, [], ◌∷◌, ◌++◌, length, drop, arith}
+use Rattle.std.specs.Prelude.{slice_get, replicate, take, Option, Some, None, if◌then◌else◌}
 use Rattle.std.proofs.lemmas.List.{length-append, length-drop, length-map, length-replicate, length-set}
 use Rattle.gang_types.specs.declared.types.Rate.TheVariants.{Varying}
 use Rattle.gang_types.specs.declared.places.VarId.{VarId}
@@ -8,16 +8,17 @@ use Rattle.gang_types.specs.declared.places.VarId.TheVariants.{File, Local}
 use Rattle.gang_model.specs.Types.Tree.{Global, Function, Program, Nothing}
 use Rattle.gang_model.specs.Types.Resolved.{program_of}
 use Rattle.gang_model.specs.Source.Parsed.{ParsedSource}
-use Rattle.gang_model.specs.Running.State.{State, same_id, words_of, view_of}
+use Rattle.gang_model.specs.Running.State.{Frame, State, same_id, words_of, view_of}
 use Rattle.gang_model.specs.Running.Step.{settled, new_frame, step, Stepped, Goes, Fails, Over}
 use Rattle.gang_model.specs.Running.SeparateInstances.{IsVaryingScalar, IsOfGang}
-use Rattle.gang_model.specs.Debugger.Events.{Event, Step, Poke, Poked, WholeOf, LaneOf, ElementAt, Row, Given, scalar_words, global_words, initial_memory, covered, with_row, with_rows, started, start, poked, gone, happen, after}
+use Rattle.gang_model.specs.Debugger.Events.{Event, Step, Poke, Poked, WholeOf, LaneOf, ElementAt, InFrame, Row, Given, scalar_words, global_words, initial_memory, covered, with_row, with_rows, started, start, poked, gone, happen, after}
+use Rattle.gang_model.specs.Debugger.Frames.{state_at}
 use Rattle.gang_model.proofs.StandingLaws.{Each}
 use Rattle.gang_model.proofs.StateLanes.{StateSized, sized-start, sized-after}
 use Rattle.lane_alone.proofs.FileVariables.{numbered_file, sound_body}
 use Rattle.lane_alone.proofs.Gangs.{frames_wide}
 use Rattle.lane_alone.proofs.PurePrograms.{none_some, some_same}
-use Rattle.lane_alone.proofs.WideStates.{IsPart, IsWide, IsStateWide, sound_settled, wide_words, wide_with, old_words, wide_tasks}
+use Rattle.lane_alone.proofs.WideStates.{IsFrameSound, IsPart, IsWide, IsStateWide, sound_settled, wide_words, wide_with, old_words, wide_tasks}
 use Rattle.lane_alone.proofs.WideSteps.{IsSteppedWide, wide_step}
 use Rattle.lane_alone.proofs.Words.{itself, another, file_apart}
 
@@ -85,6 +86,18 @@ module _ (source : ParsedSource) (p : Program) (w : ℕ) where
 
   -- ---- pokes
 
+  sound_below : (n : ℕ) (frames : List Frame) → Each (IsFrameSound source p) frames → Each (IsFrameSound source p) (drop n frames)
+  sound_below zero frames h = h
+  sound_below (suc n) [] h = tt
+  sound_below (suc n) (frame ∷ frames) h = sound_below n frames h.1
+
+  -- frames under others are sound where those under them are
+  sound_under : (n : ℕ) (frames below : List Frame) → Each (IsFrameSound source p) frames → (Each (IsFrameSound source p) (drop n frames) → Each (IsFrameSound source p) below)
+      → Each (IsFrameSound source p) (take n frames ++ below)
+  sound_under zero frames below h k = k h
+  sound_under (suc n) [] below h k = k tt
+  sound_under (suc n) (frame ∷ frames) below h k = (h.0, sound_under n frames below h.1 k)
+
   wide_poked : (what : Poked) (word : ℕ) (state : State) → IsStateWide source p w state → IsStateWide source p w (poked what word state)
   wide_poked (WholeOf v) word state h = wide_with source p w state v _ h (λ n named varying. length-map _ _ ∙ old_words source p w state v n h named varying)
   wide_poked (LaneOf v k) word state h = wide_with source p w state v _ h (λ n named varying. length-set _ k word ∙ old_words source p w state v n h named varying)
@@ -93,6 +106,11 @@ module _ (source : ParsedSource) (p : Program) (w : ℕ) where
         h.0,
         wide_words source p w state.memory view.array _ h.1
             (λ n named varying. length-set (words_of state.memory view.array) _ word ∙ ap (λ i. length (words_of state.memory i)) named ∙ h.1 n varying),
+      )
+  wide_poked (InFrame deep what) word state h =
+      let n = length state.frames - deep in (
+        sound_under n state.frames (poked what word (state_at deep state)).frames h.0 (λ below. (wide_poked what word (state_at deep state) (below, h.1)).0),
+        (wide_poked what word (state_at deep state) (sound_below n state.frames h.0, h.1)).1,
       )
 
   -- the state after a poke

@@ -1,6 +1,6 @@
 -- The frames of a run, by their functions and the steps that made them.
-use Rattle.std.proofs.Common.{◌≡◌, refl, sym, ap, ◌∙◌, subst, ℕ, suc, ◌-◌, ◌<◌, ◌≤◌, Bool, true, false, List, [], ◌∷◌, ◌++◌, length, map, drop, Option, Some, None, inl, inr, arith}
-use Rattle.std.specs.Prelude.{Result, Ok, Err, IfOk, ◌⊎◌, ◌==◌, is_none, max, not, nat_lt, slice_get, if◌then◌else◌}
+use Rattle.std.proofs.Common.{◌≡◌, refl, sym, ap, ◌∙◌, subst, ℕ, zero, suc, ◌-◌, ◌<◌, ◌≤◌, Bool, true, false, List, [], ◌∷◌, ◌++◌, length, map, drop, Option, Some, None, inl, inr, arith}
+use Rattle.std.specs.Prelude.{Result, Ok, Err, IfOk, ◌⊎◌, ◌==◌, is_none, max, not, nat_lt, slice_get, take, if◌then◌else◌}
 use Rattle.std.proofs.lemmas.Bool.Decides.{nat_tests}
 use Rattle.gang_types.specs.declared.types.IntType.{IntType}
 use Rattle.gang_types.specs.declared.types.IntType.TheVariants as t
@@ -15,7 +15,8 @@ use Rattle.gang_model.specs.Running.Rounds.{rounds}
 use Rattle.gang_model.specs.Running.Value.{value}
 use Rattle.gang_model.specs.Running.Library.{rank}
 use Rattle.gang_model.specs.Running.Step.{deliver, left, leave, Passed, new_frame, entered, returned_on, with_store, run, perform, Stepped, Goes, Fails, Over, stepped, settle, settled, first_do, task, with_tasks, broken, continued, returned, result_rate, step_task, step_frame, step, Written, ToVar, ToElements, write, packed, initial, reached, old_values, passed, part}
-use Rattle.gang_model.specs.Debugger.Events.{Event, Step, Poke, Poked, WholeOf, LaneOf, ElementAt, poked, gone, happen, after}
+use Rattle.gang_model.specs.Debugger.Events.{Event, Step, Poke, Poked, WholeOf, LaneOf, ElementAt, InFrame, poked, gone, happen, after}
+use Rattle.gang_model.specs.Debugger.Frames.{state_at}
 use Rattle.gang_model.specs.Debugger.Positions.{call_at, call_spot, spot_in, spot_now}
 use Rattle.gang_model.specs.Texts.Text.{Bytes}
 use Rattle.gang_model.proofs.LaneWords.{if_ok_after}
@@ -203,10 +204,17 @@ made_gone p state (Goes next) is made = made_stepped (keys state.frames) (keys n
 made_gone p state (Fails fault) is made = made
 made_gone p state Over is made = made
 
+keys_under : (n : ℕ) (frames below : List Frame) → keys below ≡ keys (drop n frames) → keys (take n frames ++ below) ≡ keys frames
+keys_under zero frames below same = same
+keys_under (suc n) [] below same = same
+keys_under (suc n) (frame ∷ frames) below same = ap (λ ks. key frame ∷ ks) (keys_under n frames below same)
+
 made_poked : (what : Poked) (word : ℕ) (state : State) → keys (poked what word state).frames ≡ keys state.frames
 made_poked (WholeOf v) word state = same_words (keys state.frames) state v _ refl
 made_poked (LaneOf v k) word state = same_words (keys state.frames) state v _ refl
 made_poked (ElementAt v k) word state = refl
+made_poked (InFrame deep what) word state =
+    keys_under (length state.frames - deep) state.frames (poked what word (state_at deep state)).frames (made_poked what word (state_at deep state))
 
 made_happen : (p : Program) (event : Event) (state : State) → AreMade (keys state.frames) → AreMade (keys (happen p event state).frames)
 made_happen p Step state made = made_gone p state (step p state) refl made

@@ -1,6 +1,6 @@
 -- Where a program stands, each variable that its next step names and that is in scope there is declared.
-use Rattle.std.proofs.Common.{◌≡◌, refl, sym, ap, ◌∙◌, subst, ℕ, zero, suc, ◌<◌, true, false, List, [], ◌∷◌, length, replicate, get_or-take, slice_get, slice_index_or, Option, Some, None, arith}
-use Rattle.std.specs.Prelude.{All}
+use Rattle.std.proofs.Common.{◌≡◌, refl, sym, ap, ◌∙◌, subst, ℕ, zero, suc, ◌-◌, ◌<◌, ◌≤◌, true, false, List, [], ◌∷◌, ◌++◌, length, replicate, get_or-take, slice_get, slice_index_or, Option, Some, None, arith}
+use Rattle.std.specs.Prelude.{All, drop, take}
 use Rattle.gang_types.specs.declared.types.Rate.{Rate}
 use Rattle.gang_types.specs.declared.types.Rate.TheVariants.{Uniform, Varying}
 use Rattle.gang_types.specs.declared.places.VarId.{VarId}
@@ -11,7 +11,8 @@ use Rattle.gang_model.specs.Running.Lanes.{at}
 use Rattle.gang_model.specs.Running.State.{Store, Frame, words_of, words_in, with_words, with_var, with_words_in}
 use Rattle.gang_model.specs.Running.RunningOrder.{IsNumberedProgram}
 use Rattle.gang_model.specs.Running.Step.{new_frame}
-use Rattle.gang_model.specs.Debugger.Events.{Poked, WholeOf, LaneOf, ElementAt, Given, Row, started, poked, with_rows}
+use Rattle.gang_model.specs.Debugger.Events.{Poked, WholeOf, LaneOf, ElementAt, InFrame, Given, Row, started, poked, with_rows}
+use Rattle.gang_model.specs.Debugger.Frames.{state_at}
 use Rattle.mask_states.specs.Points.{Point}
 use Rattle.mask_states.specs.Masked.{Level, Masked, entered_body}
 use Rattle.mask_states.specs.MaskedStep.{untasked, entered_levels, masked_start}
@@ -69,11 +70,23 @@ module _ (variables : Variables) (p : Program) where
   words_declared memory (frame ∷ frames) [] (Local n) words h = tt
   words_declared memory (frame ∷ frames) (levels ∷ rest) (Local n) words h = (frame_kept frame (Local n) words levels h.0, h.1)
 
+  -- frames under others have what is declared where those under them do
+  declared_under : (n : ℕ) (frames below : List Frame) (levels : List (List Level)) → n ≤ length frames → FramesDeclared variables p frames levels
+      → (FramesDeclared variables p (drop n frames) (drop n levels) → FramesDeclared variables p below (drop n levels)) → FramesDeclared variables p (take n frames ++ below) levels
+  declared_under zero frames below levels most h k = k h
+  declared_under (suc n) [] below levels most h k = absurd (omega (arith, most))
+  declared_under (suc n) (frame ∷ frames) below [] most h k = tt
+  declared_under (suc n) (frame ∷ frames) below (level ∷ levels) most h k = (h.0, declared_under n frames below levels (omega (arith, most)) h.1 k)
+
   -- a poke keeps what is declared
   pub poked_declared : (masked : Masked) (what : Poked) (word : ℕ) → AreDeclared variables p masked → AreDeclared variables p (record masked { state = poked what word masked.state })
   poked_declared masked (WholeOf v) word h = words_declared masked.state.memory masked.state.frames masked.levels v _ h
   poked_declared masked (LaneOf v k) word h = words_declared masked.state.memory masked.state.frames masked.levels v _ h
   poked_declared masked (ElementAt v k) word h = h
+  poked_declared masked (InFrame deep what) word h =
+      let n = length masked.state.frames - deep in
+      let below : Masked = record { state = state_at deep masked.state; levels = drop n masked.levels } in
+      declared_under n masked.state.frames (poked what word below.state).frames masked.levels (omega arith) h (λ d. poked_declared below what word d)
 
 -- ---- the next step
 
