@@ -71,3 +71,4 @@ complete -c rinddecade -n '__fish_seen_subcommand_from port' -F
 complete -c rinddecade -n '__fish_seen_subcommand_from port' -l to -r -F -d 'the file that is written; else the text goes to standard output'
 complete -c rinddecade -n '__fish_seen_subcommand_from port' -l force -d 'writes over the file of --to, whatever it holds'
 complete -c rinddecade -n '__fish_seen_subcommand_from port' -s h -l help -d 'Print help'
+complete -c rinddecade -n '__fish_seen_subcommand_from help' -a 'debug picture page profile adapter explain port'
