@@ -35,6 +35,10 @@ NAMED = 12
 STOPS = 64
 FULL = b"C11 TableFull: 64 breakpoints and watches are there; `delete N` makes room.\n"
 
+# So many lines can be displayed.
+DISPLAYS = 16
+NOT_DISPLAYED = b"it is not displayed from now on: 16 lines are; `undisplay N` makes room\n"
+
 # A loop of 201 steps, and where its program begins.
 LOOP = b"export void go() {\n    uniform int n = 0;\n    while (n < 100)\n        n += 1;\n}\n"
 AT_START = b"go at loop.ispc:2:5, "
@@ -194,6 +198,7 @@ def typed_lines():
     stops = lambda lines: lambda text: [] if (text.count(TOO_LONG), text.count(b"C1 ")) == lines else [f"it answers {text[-300:]!r}"]
     long = b"x" * (MOST_TYPED + 1)
     is_full = lambda text: [] if text.count(FULL) == 1 and text.endswith(FULL + b"    break 3\n    ^\n") else [f"it ends {text[-300:]!r}"]
+    is_shown_once = lambda text: [] if text.count(NOT_DISPLAYED) == 1 and text.endswith(NOT_DISPLAYED) else [f"it ends {text[-300:]!r}"]
     echoed = lambda count: b"echo " + b"z" * count + b"\n"
     is_echoed = lambda text: [] if text.endswith(b"\n" + b"z" * ECHOED + b"\n" + TOO_LONG) else [f"it ends {text[-400:]!r}"]
     in_colours = ["debug", "listed.ispc", "--color", "always"]
@@ -204,6 +209,7 @@ def typed_lines():
         Run("the longest text of `echo`, and one of a byte more", echoed(ECHOED) + echoed(ECHOED + 1), words, is_echoed, b"", 0, FILES),
         Run("a NUL in a line, and a line without its end", b"echo a\0b\nprint z", words, has_words(b"\na?b\n", b"C2 "), b"", 0, FILES),
         Run("a breakpoint more than there is room for", b"break 2\n" * STOPS + b"break 3\n", words, is_full, b"", 0, FILES),
+        Run("a display more than there is room for", b"display 1 + 1\n" * (DISPLAYS + 1), words, is_shown_once, b"", 0, FILES),
         Run("a line of the most bytes", b"x" * MOST_TYPED + b"\n", words, stops((0, 1)), b"", 0, FILES),
         Run("a line of the most bytes without its end", b"x" * MOST_TYPED, words, stops((0, 1)), b"", 0, FILES),
         Run("a line of one byte more", long + b"\nquit\n", words, stops((1, 1)), b"", 0, FILES),

@@ -177,6 +177,29 @@ def of_entries(width):
     return "frames that are not yet entered", lines, wanted
 
 
+def of_lines_that_lead_nowhere(width):
+    """A watch of a frame stays where a line that leads to another moment is refused, or leads to this one; it ends with one that leads away."""
+    lines = ["break 10 if n == 0", "run", "delete 1", "checkpoint", "watch v"]
+    lines += ["goto x", "until 99", "last nobody", "restart 7", "restart 1", "info watchpoints", "goto 2", "info watchpoints"]
+    nothing_ends = "!ends"
+    wanted = [
+        ("breakpoint 1 at line 10",),
+        ("breakpoint 1:",),
+        ("deleted 1",),
+        ("",),
+        ("watch 2: v",),
+        (nothing_ends,),
+        (nothing_ends,),
+        (nothing_ends,),
+        (nothing_ends,),
+        (nothing_ends,),
+        ("2  watch, v, of the frame at depth 4",),
+        ("watch 2 of v ends: its frame is not yet entered here",),
+        ("no watches",),
+    ]
+    return "lines that lead nowhere", lines, wanted
+
+
 def of_conditions(width):
     """A condition is worked out where the program stands then, in the lanes that are active there; and a count."""
     lines = ["break 17", "run", "delete 1", "watch x if x < -2", "continue", "print x[2]", "print i", "condition 2", "ignore 2 1", "info breakpoints", "reverse-continue", "print x[2]", "delete 2", "continue"]
@@ -220,7 +243,7 @@ def of_refusals(width):
 def runs():
     found = []
     for width in WIDTHS:
-        for part in (of_lanes, of_parts, of_frames, of_outer_frames, of_entries, of_conditions, of_refusals):
+        for part in (of_lanes, of_parts, of_frames, of_outer_frames, of_entries, of_lines_that_lead_nowhere, of_conditions, of_refusals):
             name, lines, wanted = part(width)
             typed = f"{MARK}\n" + "".join(f"{line}\n{MARK}\n" for line in lines)
             found.append(Run(f"watches of {name}, {width} lanes", typed.encode(), ["debug", NAME, "--width", str(width)], judged(wanted), b"", data={NAME: SOURCE}))

@@ -2,7 +2,7 @@
 use Rattle.std.proofs.Common.{◌≡◌, refl, ap}
 use Rattle.std.specs.Prelude.{ℕ, ◌^◌, ◌-◌, true, false, List, [], ◌∷◌, pos, Some, None, codes, if◌then◌else◌}
 use Rattle.std.specs.List.{list_any}
-use Rattle.gang_model.specs.Debugger.Debugger.{AtBreakpoint, Command, Debugger, DoBreak, DoContinue, DoDelete, DoPrint, DoReverseContinue, DoReverseStep, DoSet, DoSetIn, DoStep, DoUndo, DoWatch, Ended, Line, NoGoal, Refused, Setting, StepLimit, Target, depth, first_stop, forward, has_ended, now, on_line, reply, unless_refused}
+use Rattle.gang_model.specs.Debugger.Debugger.{AtBreakpoint, Command, Debugger, DoBreak, DoContinue, DoDelete, DoPrint, DoReverseContinue, DoReverseStep, DoSet, DoSetIn, DoStep, DoUndo, DoWatch, Ended, Line, NoGoal, Refused, Setting, StepLimit, Target, depth, first_stop, forward, fresh, has_ended, now, on_line, reply, unless_refused}
 use Rattle.gang_model.specs.Debugger.Events.{LaneOf, Poke, Step}
 use Rattle.gang_types.specs.declared.places.VarId.TheVariants as id
 use Rattle.debug_answers.specs.declared.stops.Stop.TheVariants as stop
@@ -25,7 +25,7 @@ use Rattle.prompt_stops.specs.Breaking.{means_at, numbered, spot_of, text_watche
 use Rattle.prompt_past.specs.FramePast.{is_kept, is_later}
 use Rattle.prompt_going.specs.GoingOn.{walks_by, way_by}
 use Rattle.debug_prompt.specs.Doing.{commands_of, held_after, kept_after}
-use Rattle.debug_prompt.specs.Lines.{known_within}
+use Rattle.debug_prompt.specs.Lines.{has_stayed, known_within}
 
 -- a source with two functions, of which one calls the other
 source : Sheet
@@ -265,6 +265,27 @@ within_row = refl
 
 file_last_row : known_within None kind.Last (codes "watch  total") 3 ≡ 1
 file_last_row = refl
+
+-- a line to another moment has led nowhere where as many steps can be taken back behind it; where the history is full, one may have been dropped
+three_steps : Debugger
+three_steps = record (fresh 5) { events = Step ∷ Step ∷ Step ∷ []; kept = 3 }
+
+nowhere_row : has_stayed kind.Goto 3 three_steps ≡ true
+unfolding three_steps
+nowhere_row = refl
+
+somewhere_row : has_stayed kind.Goto 2 three_steps ≡ false
+unfolding three_steps
+somewhere_row = refl
+
+full_row : has_stayed kind.Until 3 (record three_steps { history = 3 }) ≡ false
+unfolding three_steps
+full_row = refl
+
+-- a move of a count may have left a frame and entered another one, with as many steps
+counted_row : has_stayed kind.Own 3 three_steps ≡ false
+unfolding three_steps
+counted_row = refl
 
 -- the way back goes on while all lanes show the same; a word that differs in one lane, or a variable that is not there, ends it
 same_row : is_kept (Some (7 ∷ 7 ∷ 9 ∷ [])) (Some (7 ∷ 7 ∷ 9 ∷ [])) ≡ true

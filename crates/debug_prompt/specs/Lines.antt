@@ -1,8 +1,8 @@
 -- What is done for a line, where conditions or counts are there or something is disabled, and where none is. With none it is a list of
 -- commands (`commands_of`), but that there may be no memory to read an expression that is to be watched. With some, `continue`, `reverse-continue` and `run` go on to a breakpoint or watch that counts, and how often a command is done for
 -- that depends on what the conditions come to.
-use Rattle.std.specs.Prelude.{◌≡◌, ℕ, ◌||◌, Bool, true, false, not, List, min, Option, Some, None, option_map}
-use Rattle.gang_model.specs.Debugger.Debugger.{Debugger, Setting, Target, depth, now}
+use Rattle.std.specs.Prelude.{◌≡◌, ◌==◌, ℕ, ◌||◌, ◌&&◌, Bool, true, false, not, List, min, nat_lt, Option, Some, None, option_map, if◌then◌else◌}
+use Rattle.gang_model.specs.Debugger.Debugger.{Debugger, Setting, Target, depth, kept_steps, now}
 use Rattle.gang_model.specs.Texts.CommandText.{command_of}
 use Rattle.debug_session.specs.declared.session.Session.{Session}
 use Rattle.debug_session.specs.Sessions.{StandsFor}
@@ -48,12 +48,28 @@ abbrev pub known_within : (within : Option ℕ) → Kind → (text : List ℕ) �
 known_within None kind text deep = known kind text deep
 known_within (Some within) kind text deep = min within deep
 
--- the same after a line
-abbrev pub known_by : Setting → Debugger → Held → Spelled → (depth : ℕ) → ℕ
-known_by s d h line deep = known_within (depth_within s d h line.kind (watch_of (command_of line.text))) line.kind line.text deep
+-- whether a line of a kind leads to another moment, over any number of moves
+abbrev pub leads_elsewhere : Kind → Bool
+leads_elsewhere kind.Until = true
+leads_elsewhere kind.Goto = true
+leads_elsewhere kind.Restart = true
+leads_elsewhere kind.Last = true
+leads_elsewhere other = false
+
+-- whether such a line has led nowhere: as many steps can be taken back as before it, and none was dropped
+abbrev pub has_stayed : Kind → (steps : ℕ) → Debugger → Bool
+has_stayed kind steps d = leads_elsewhere kind && (kept_steps d == steps) && nat_lt d.kept d.history
+
+-- the depth up to which frames are those of before, after a line before which so many steps could be taken back
+abbrev pub known_now : Setting → (within : Option ℕ) → (steps : ℕ) → Kind → (text : List ℕ) → Debugger → ℕ
+known_now s within steps kind text d = if has_stayed kind steps d then depth (now s d) else known_within within kind text (depth (now s d))
+
+-- the same after a line that led from one debugger to another
+abbrev pub known_by : Setting → (before : Debugger) → Held → Spelled → (after : Debugger) → ℕ
+known_by s d h line e = known_now s (depth_within s d h line.kind (watch_of (command_of line.text))) (kept_steps d) line.kind line.text e
 
 -- what is done for a line, where one is kept; then the watches end whose frame is not known to be there
 pub record DoesLine {M : Type 0} (stands : M → Setting → Debugger → Type 0) (sheet : Sheet) (kept : Spelled) (h : Held) (s : Setting) (d : Debugger) (line : List ℕ) (session : Session M) (new : Held) : Type 0 where
   pub middle : Held
   pub does : DoesKind stands (meant kept line).kind sheet s d h (meant kept line).text session middle
-  pub ends : (e : Debugger) → StandsFor stands session s e → new ≡ ended (known_by s d h (meant kept line) (depth (now s e))) middle
+  pub ends : (e : Debugger) → StandsFor stands session s e → new ≡ ended (known_by s d h (meant kept line) e) middle

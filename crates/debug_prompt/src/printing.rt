@@ -286,7 +286,11 @@ fn display_target<M: ExpressionMachine, O: AnswerWriter + Drop>(
         × (held holding.new ≡ printing.after_print s d (held holding.old) text.now (readings.print_of (command_of text.now))) }
 {
     if print_new(text, holding, scene, session, page) {
+        let displayed = holding.displays().len();
         holding.add_display(text);
+        if holding.displays().len() == displayed {
+            page.put(b"it is not displayed from now on: 16 lines are; `undisplay N` makes room\n");
+        }
     }
 }
 

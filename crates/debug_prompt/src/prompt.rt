@@ -11,7 +11,7 @@ use crate::looking::Looking;
 use crate::printing::{display, print, set_spelled, undisplay};
 use crate::running::{do_own_words, run_to_stop};
 use crate::settings::{USUAL, layout_after};
-use crate::within::{depth_within, known_within};
+use crate::within::{depth_within, kept_steps, known_now};
 use debug_commands::{Command, read_command};
 use debug_session::Session;
 use debug_traits::{AnswerWriter, RecordedMachine};
@@ -20,7 +20,7 @@ use prompt_going::{finish, go_until};
 use prompt_lines::{Kind, Look, PromptLine, Text, read_line};
 use prompt_moves::{forget, go_to_step, note_moment, restart, start};
 use prompt_past::{go_to_last, tell_changes};
-use prompt_scenes::{Holding, ListedLine, Scene, command_repeats, depth, sets};
+use prompt_scenes::{Holding, ListedLine, Scene, command_repeats, sets};
 use prompt_stops::{
     break_temporarily, change_condition, clear, delete, disable, enable, ignore, make_break,
     make_watch, tell_ended,
@@ -114,7 +114,7 @@ impl Prompt {
             most_steps: self.most_steps,
             layout: self.layout,
         };
-        let steps = session.machine().kept_steps();
+        let steps = kept_steps(session);
         let within = depth_within(&meant, &self.holding, session);
         let printed = do_meant(
             &meant,
@@ -127,7 +127,7 @@ impl Prompt {
             page,
         );
         self.values.note_if(printed);
-        let deepest = known_within(within, &meant, depth(session));
+        let deepest = known_now(within, steps, &meant, session);
         tell_ended(deepest, steps, &self.holding, session, page);
         self.holding.end_frames(deepest);
         self.looking.note(&meant, session);

@@ -1,10 +1,12 @@
 use Rattle.std.proofs.Common.{◌≡◌, subst, ap, ◌∙◌}
+use Rattle.gang_model.specs.Texts.CommandText.{command_of}
 use Rattle.prompt_lines.specs.Readings.{spelled}
 use Rattle.prompt_lines.specs.Words.{Spelled}
 use Rattle.prompt_scenes.specs.FrameWatches.{ended}
 use Rattle.prompt_scenes.specs.Holding.{held, sheet}
+use Rattle.prompt_scenes.specs.Readings.{watch_of}
 use Rattle.debug_prompt.specs.Doing.{meant, meant_by}
-use Rattle.debug_prompt.specs.Lines.{DoesKind, known_by, known_within}
+use Rattle.debug_prompt.specs.Lines.{DoesKind, depth_within, known_by, known_now}
 use Rattle.debug_prompt.proofs.prompt.Prompt.do_line.Goals as goal
 
 pub returns-clause-done : goal.returns-clause-done
@@ -20,7 +22,8 @@ returns-clause-done g c s d st limit =
       middle = middle;
       does = subst (λ (x : Spelled). DoesKind stands x.kind (sheet c.args.source) s d h x.text new middle) is (c.do_meant-printed.ensures s d st limit);
       ends = λ e at.
-          c.end_frames.ensures ∙ ap (λ n. ended n middle) (c.known_within-deepest.ensures
-          ∙ ap (λ within. known_within within c.meant-meant.result.kind c.meant-meant.result.text.items c.depth.result) (c.depth_within-within.ensures s d st)
-          ∙ ap (λ (x : Spelled). known_by s d h x c.depth.result) is ∙ ap (known_by s d h (meant kept line)) (c.depth.ensures s e at));
+          c.end_frames.ensures ∙ ap (λ n. ended n middle) (c.known_now-deepest.ensures s e at
+          ∙ ap (λ within. known_now s within c.kept_steps-steps.result c.meant-meant.result.kind c.meant-meant.result.text.items e) (c.depth_within-within.ensures s d st)
+          ∙ ap (λ steps. known_now s (depth_within s d h c.meant-meant.result.kind (watch_of (command_of c.meant-meant.result.text.items))) steps c.meant-meant.result.kind c.meant-meant.result.text.items e) (c.kept_steps-steps.ensures s d st)
+          ∙ ap (λ (x : Spelled). known_by s d h x e) is);
     }
