@@ -181,7 +181,7 @@ def of_lines_that_lead_nowhere(width):
     """A watch of a frame stays where a line that leads to another moment is refused, or leads to this one; it ends with one that leads away."""
     lines = ["break 10 if n == 0", "run", "delete 1", "checkpoint", "watch v"]
     lines += ["goto x", "until 99", "last nobody", "restart 7", "restart 1", "info watchpoints", "goto 2", "info watchpoints"]
-    nothing_ends = "!ends"
+    nothing_ends = "!watch 2 of v ends"
     wanted = [
         ("breakpoint 1 at line 10",),
         ("breakpoint 1:",),
