@@ -122,7 +122,7 @@ module _ {M : Type 0} (stands : M → Setting → Debugger → Type 0) (s : Sett
   step_ended d table new (Some end.NoMemory) session there made by = absurd by
 
 -- where nothing counts behind a step, it is the last one, or the next one can be made
-pub last_ended : (s : Setting) (way : Direction) (watches : List Watch) (began d : Debugger) (table new : Table) (last : Option Answer) → Asks s d (reasons_on s began d watches) table None new
+pub last_ended : (s : Setting) (way : Direction) (watches : List Watch) (began d : Debugger) (table new : Table) (last : Option Answer) → Asks s d (reasons_on way s began d watches) table None new
     → last_answer way s d watches ≡ last → EndsHere s way watches began d table (option_map (λ given. end.Answered given) last) new
 last_ended s way watches began d table new None none is = (none, is)
 last_ended s way watches began d table new (Some given) none is = (none, is)

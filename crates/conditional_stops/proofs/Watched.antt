@@ -15,6 +15,7 @@ use Rattle.conditional_stops.specs.Noted.{HasCodes, IsWatched, IsWatchedOn}
 pub any_codes : (p : Program) (kept : KeptCodes) → ((w : ExpressionWatch) → AreCodesOf p w kept) → (w : Watch) → HasCodes p w kept
 any_codes p kept each (watch.Variable w) = tt
 any_codes p kept each (watch.Expression w) = each w
+any_codes p kept each (watch.Writes w) = tt
 
 -- whether the move goes on or not
 pub watched_on : (s : Setting) (d : Debugger) (watches : List Watch) (ended : Option MoveEnd) (it : Watched) → IsWatched s d watches it → IsWatchedOn s d watches ended it

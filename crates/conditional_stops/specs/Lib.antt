@@ -9,3 +9,4 @@ pub mod Views
 pub mod Walking
 pub mod Watches
 pub mod Watching
+pub mod Writes

@@ -18,6 +18,7 @@ use Rattle.conditional_stops.specs.Watches.{seen}
 abbrev pub HasCodes : Program → Watch → KeptCodes → Type 0
 HasCodes p (watch.Variable w) kept = ⊤
 HasCodes p (watch.Expression w) kept = AreCodesOf p w kept
+HasCodes p (watch.Writes w) kept = ⊤
 
 -- the same of each watch, in their order
 abbrev pub HaveCodes : Program → List Watch → List KeptCodes → Type 0

@@ -38,8 +38,8 @@ tells_here answer.Here = true
 tells_here other = false
 
 -- all at which a step stops: the breakpoints and watches of the debugger, and then the watches of frames
-abbrev pub reasons_on : Setting → (began d : Debugger) → List Watch → List Reason
-reasons_on s began d watches = reasons s began d ++ changed_frames s began d watches
+abbrev pub reasons_on : Direction → Setting → (began d : Debugger) → List Watch → List Reason
+reasons_on way s began d watches = reasons s began d ++ changed_frames way s began d watches
 
 -- the answer where no step is left: the program has ended, or the history goes back no further
 abbrev pub no_step : Direction → Setting → Debugger → Option Answer
@@ -53,7 +53,7 @@ last_answer way s d watches = if list_any (is_away (depth (now s d))) watches th
 -- a step is made, nothing counts, and the next one can be made; the table is this one then
 pub record PassesStep (s : Setting) (way : Direction) (watches : List Watch) (d : Debugger) (table new : Table) : Type 0 where
   pub made : is_here (do_command s (step_of way) d).answer ≡ true
-  pub none : Asks s (do_command s (step_of way) d).next (reasons_on s d (do_command s (step_of way) d).next watches) table None new
+  pub none : Asks s (do_command s (step_of way) d).next (reasons_on way s d (do_command s (step_of way) d).next watches) table None new
   pub more : last_answer way s (do_command s (step_of way) d).next watches ≡ None
 
 -- so many such steps, one after another, lead from a debugger and a table to these
@@ -71,7 +71,7 @@ abbrev pub AnswersStep : Setting → Direction → List Watch → (d : Debugger)
 AnswersStep s way watches d table given new =
     ((is_here (do_command s (step_of way) d).answer ≡ false) × Means s (do_command s (step_of way) d).next given (do_command s (step_of way) d).answer × (new ≡ table))
     ⊎ (((is_here (do_command s (step_of way) d).answer ≡ true)
-    × Asks s (do_command s (step_of way) d).next (reasons_on s d (do_command s (step_of way) d).next watches) table None new
+    × Asks s (do_command s (step_of way) d).next (reasons_on way s d (do_command s (step_of way) d).next watches) table None new
     × (last_answer way s (do_command s (step_of way) d).next watches ≡ Some given))
     ⊎ SeesNothing s way d table given new)
 
@@ -79,16 +79,16 @@ AnswersStep s way watches d table given new =
 abbrev pub EndsStep : Setting → Direction → List Watch → (d : Debugger) → Table → MoveEnd → (new : Table) → Type 0
 EndsStep s way watches d table (end.Stopped counted) new =
     (is_here (do_command s (step_of way) d).answer ≡ true)
-    × Asks s (do_command s (step_of way) d).next (reasons_on s d (do_command s (step_of way) d).next watches) table (Some counted) new
+    × Asks s (do_command s (step_of way) d).next (reasons_on way s d (do_command s (step_of way) d).next watches) table (Some counted) new
 EndsStep s way watches d table (end.Answered given) new = AnswersStep s way watches d table given new
 EndsStep s way watches d table end.MostPassed new = ⊥
 EndsStep s way watches d table end.NoMemory new = ⊥
 
 -- what ends a move behind a step that was made, from one debugger to another: the first that counts, or that it is the last one
 abbrev pub EndsHere : Setting → Direction → List Watch → (began d : Debugger) → Table → Option MoveEnd → (new : Table) → Type 0
-EndsHere s way watches began d table None new = Asks s d (reasons_on s began d watches) table None new × (last_answer way s d watches ≡ None)
-EndsHere s way watches began d table (Some (end.Stopped counted)) new = Asks s d (reasons_on s began d watches) table (Some counted) new
-EndsHere s way watches began d table (Some (end.Answered given)) new = Asks s d (reasons_on s began d watches) table None new × (last_answer way s d watches ≡ Some given)
+EndsHere s way watches began d table None new = Asks s d (reasons_on way s began d watches) table None new × (last_answer way s d watches ≡ None)
+EndsHere s way watches began d table (Some (end.Stopped counted)) new = Asks s d (reasons_on way s began d watches) table (Some counted) new
+EndsHere s way watches began d table (Some (end.Answered given)) new = Asks s d (reasons_on way s began d watches) table None new × (last_answer way s d watches ≡ Some given)
 EndsHere s way watches began d table ended new = ⊥
 
 -- what ended a move; or there was no memory to note what is watched, no step was made, and nothing changed

@@ -14,6 +14,7 @@ ghost use Rattle.conditional_stops.specs.Verdicts.{IsJudged};
 ghost use Rattle.conditional_stops.specs.Views.{table_of};
 ghost use Rattle.conditional_stops.specs.Watches.{Seen, changed, changed_frames, seen};
 
+use crate::going::Direction;
 use crate::judging::{Verdict, judge_condition};
 use crate::reasons::{CountedStop, Reason};
 use crate::table::Conditions;
@@ -95,9 +96,10 @@ fn ask_watches<M: ExpressionMachine>(
     first
 }
 
-/// Asks the watches of frames that show another value than was noted before: the first that counts.
+/// Asks the watches that a step that way changed, by what was noted before it and behind it: the first that counts.
 pub(crate) fn ask_frames<M: ExpressionMachine>(
     alloc: Global,
+    direction: Direction,
     watches: &[Watch],
     before: &Sights,
     here: &Sights,
@@ -106,23 +108,25 @@ pub(crate) fn ask_frames<M: ExpressionMachine>(
 ) -> Option<CountedStop>
     ensures { (s : Setting) (began d : Debugger) → StandsFor M.stands session.now s d → sights_view before.now.items ≡ map (seen s began) watches.now
         → sights_view here.now.items ≡ map (seen s d) watches.now
-        → Asks s d (changed_frames s began d watches.now) (table_of conditions.old) result (table_of conditions.new) }
+        → Asks s d (changed_frames direction s began d watches.now) (table_of conditions.old) result (table_of conditions.new) }
 {
     let mut first = None;
     let mut place = 0;
     for watch in watches {
         let old = noted_sight(before, place);
         let new = noted_sight(here, place);
-        let counted = ask_frame(alloc, watch, old, new, conditions, session.machine());
+        let machine = session.machine();
+        let counted = ask_frame(alloc, direction, watch, old, new, conditions, machine);
         first = first_of(first, counted);
         place += 1;
     }
     first
 }
 
-/// Asks the watch of a frame, if it showed another value before.
+/// Asks a watch, if a step that way changed it.
 fn ask_frame<M: ExpressionMachine>(
     alloc: Global,
+    direction: Direction,
     watch: &Watch,
     old: Option<&Sighted>,
     new: Option<&Sighted>,
@@ -131,22 +135,22 @@ fn ask_frame<M: ExpressionMachine>(
 ) -> Option<CountedStop>
     ensures { (s : Setting) (began d : Debugger) → M.stands machine.now s (bare d) → option_map (λ shown. seen_view shown.now) old.entry ≡ Some (seen s began watch.now)
         → option_map (λ shown. seen_view shown.now) new.entry ≡ Some (seen s d watch.now)
-        → Asks s d (changed_frames s began d (watch.now ∷ [])) (table_of conditions.old) result (table_of conditions.new) }
+        → Asks s d (changed_frames direction s began d (watch.now ∷ [])) (table_of conditions.old) result (table_of conditions.new) }
 {
-    if differs(old, new) {
+    if differs(direction, old, new) {
         ask(alloc, Reason::Watch(watch.number()), conditions, machine)
     } else {
         None
     }
 }
 
-/// Whether what was noted before differs from what is noted now.
-fn differs(old: Option<&Sighted>, new: Option<&Sighted>) -> bool
+/// Whether a step that way changed what was noted before it to what is noted behind it, or sets it.
+fn differs(direction: Direction, old: Option<&Sighted>, new: Option<&Sighted>) -> bool
     ensures { (before now : Seen) → option_map (λ shown. seen_view shown.now) old.entry ≡ Some before
-        → option_map (λ shown. seen_view shown.now) new.entry ≡ Some now → result ≡ changed before now }
+        → option_map (λ shown. seen_view shown.now) new.entry ≡ Some now → result ≡ changed direction before now }
 {
     match (old, new) {
-        (Some(old), Some(new)) => has_changed(old, new),
+        (Some(old), Some(new)) => has_changed(direction, old, new),
         (Some(_), None) | (None, _) => false,
     }
 }

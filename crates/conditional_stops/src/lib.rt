@@ -10,6 +10,7 @@ mod table;
 mod walking;
 mod watches;
 mod watching;
+mod writes;
 
 pub use asking::ask_breakpoints;
 pub use going::{Direction, MoveEnd, Moved, continue_on};
@@ -19,3 +20,4 @@ pub use sights::{FrameWatch, LONGEST_NAME, Sight, differ, sight, words_of};
 pub use table::{ConditionRefusal, Conditions, LONGEST_CONDITION};
 pub use walking::walk_on;
 pub use watches::Watch;
+pub use writes::WriteWatch;

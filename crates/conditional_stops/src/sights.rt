@@ -1,7 +1,6 @@
 //! Variables of frames that are watched, and what they show.
 ghost use Rattle.std.specs.Prelude.{◌≡◌, ◌∷◌, [], Some, option_map, take};
 ghost use Rattle.gang_model.specs.Source.Names.{same_text};
-ghost use Rattle.gang_model.specs.Running.State.{same_id};
 ghost use Rattle.gang_model.specs.Types.Tree.{Variable};
 ghost use Rattle.gang_model.specs.Debugger.Debugger.{Debugger, Setting, now, part_shown, shown_words};
 ghost use Rattle.debug_session.specs.Sessions.{bare};
@@ -13,6 +12,7 @@ use crate::judging::top_depth;
 use arrayvec::ArrayVec;
 use debug_traits::{FramedMachine, Shown};
 use gang_types::VarId;
+use variable_writes::is_same;
 
 /// The most bytes of the name of a variable that is watched.
 pub const LONGEST_NAME: usize = 256;
@@ -91,17 +91,6 @@ fn is_equal(old: &[u64], new: &[u64]) -> bool
     ensures { result ≡ same_text old.now new.now }
 {
     old == new
-}
-
-/// Whether two variables are one.
-fn is_same(one: VarId, other: VarId) -> bool
-    ensures { result ≡ same_id one other }
-{
-    match (one, other) {
-        (VarId::File(a), VarId::File(b)) => a == b,
-        (VarId::Local(a), VarId::Local(b)) => a == b,
-        (VarId::File(_), VarId::Local(_)) | (VarId::Local(_), VarId::File(_)) => false,
-    }
 }
 
 /// The words of a variable of the frame at a depth, or of one of its lanes or elements.

@@ -233,7 +233,7 @@ fn end_here<'a, M: ExpressionMachine>(
         → sights_view before.now.sights.items ≡ map (seen s began) watches.now → sights_view here.now.sights.items ≡ map (seen s d) watches.now
         → EndsHere s direction watches.now began d (table_of conditions.old) result (table_of conditions.new) }
 {
-    match ask_each(alloc, watches, before, here, conditions, session) {
+    match ask_each(alloc, direction, watches, before, here, conditions, session) {
         Some(counted) => Some(MoveEnd::Stopped(counted)),
         None => end_by(last_answer(direction, watches, session)),
     }
@@ -242,6 +242,7 @@ fn end_here<'a, M: ExpressionMachine>(
 /// Asks all breakpoints and watches at which a step stopped: the first that counts.
 fn ask_each<M: ExpressionMachine>(
     alloc: Global,
+    direction: Direction,
     watches: &[Watch],
     before: &Noted,
     here: &Noted,
@@ -250,11 +251,12 @@ fn ask_each<M: ExpressionMachine>(
 ) -> Option<CountedStop>
     ensures { (s : Setting) (began d : Debugger) → StandsFor M.stands session.now s d → noted before.now.words.items ≡ watch_words (now s began) d.stops
         → sights_view before.now.sights.items ≡ map (seen s began) watches.now → sights_view here.now.sights.items ≡ map (seen s d) watches.now
-        → Asks s d (spec.reasons_on s began d watches.now) (table_of conditions.old) result (table_of conditions.new) }
+        → Asks s d (spec.reasons_on direction s began d watches.now) (table_of conditions.old) result (table_of conditions.new) }
 {
     let stop = ask_all(alloc, &before.words, conditions, session);
     let watch = ask_frames(
         alloc,
+        direction,
         watches,
         &before.sights,
         &here.sights,

@@ -1,4 +1,4 @@
-//! Watches of what frames show, of variables and of expressions: what they show is noted, and compared.
+//! Watches of what frames show, of variables and of expressions, and of what sets a variable: what they show is noted, and compared.
 ghost use Rattle.std.specs.Prelude.{◌≡◌, ◌∷◌, List, drop, map, Some, option_map, OnOk, IfOk};
 ghost use Rattle.gang_model.specs.Types.Tree.{Program};
 ghost use Rattle.gang_model.specs.Debugger.Debugger.{Debugger, Setting};
@@ -7,18 +7,22 @@ ghost use Rattle.conditional_stops.specs.Noted.{HasCodes, HaveCodes};
 ghost use Rattle.conditional_stops.specs.Watches as spec;
 ghost use Rattle.conditional_stops.specs.SightViews.{seen_view, sights_view};
 
+use crate::going::Direction;
 use crate::sights::{FrameWatch, Sight, differ, sight, words_of};
+use crate::writes::{Ahead, WriteWatch, is_set, next_sets};
 use expression_watches::{ExpressionWatch, KeptCodes, LaneSight, kept_sight, lanes_differ};
 use frame_expressions::ExpressionMachine;
 use std::alloc::{AllocError, Global};
 
-/// A watch of what a frame shows.
+/// A watch of what a frame shows, or of what sets a variable.
 #[derive(Drop)]
 pub enum Watch {
     /// A variable, or one of its lanes or elements.
     Variable(FrameWatch),
     /// An expression.
     Expression(ExpressionWatch),
+    /// What sets a scalar.
+    Writes(WriteWatch),
 }
 
 /// The blank in an unused place.
@@ -38,16 +42,18 @@ impl Watch {
         match self {
             Watch::Variable(watch) => watch.number,
             Watch::Expression(watch) => watch.number,
+            Watch::Writes(watch) => watch.number,
         }
     }
 
-    /// The depth of its frame.
+    /// The depth of its frame, 0 where it is of the file.
     pub fn depth(&self) -> usize
         ensures { result ≡ spec.watch_depth self.now }
     {
         match self {
             Watch::Variable(watch) => watch.depth,
             Watch::Expression(watch) => watch.depth,
+            Watch::Writes(watch) => watch.depth,
         }
     }
 }
@@ -59,6 +65,8 @@ pub(crate) enum Sighted {
     Words(Sight),
     /// Of an expression a word for each lane that shows one.
     InLanes(LaneSight),
+    /// What the next step sets.
+    Sets(Ahead),
 }
 
 /// What each watch showed, in their order.
@@ -123,6 +131,7 @@ fn shown_by<M: ExpressionMachine>(
             let shown = kept_sight(alloc, watch, codes, machine)?;
             Ok(Sighted::InLanes(shown))
         }
+        Watch::Writes(watch) => Ok(Sighted::Sets(next_sets(machine, watch))),
     }
 }
 
@@ -137,17 +146,28 @@ pub(crate) fn noted_sight(sights: &Sights, place: usize) -> Option<&Sighted>
     }
 }
 
-/// Whether a watch showed another value before.
-pub(crate) fn has_changed(before: &Sighted, now: &Sighted) -> bool
-    ensures { result ≡ spec.changed (seen_view before.now) (seen_view now.now) }
+/// Whether a step that way changed what a watch shows, or sets it.
+pub(crate) fn has_changed(direction: Direction, before: &Sighted, now: &Sighted) -> bool
+    ensures { result ≡ spec.changed direction (seen_view before.now) (seen_view now.now) }
 {
     match (before, now) {
         (Sighted::Words(before), Sighted::Words(now)) => differ(words_of(before), now),
         (Sighted::InLanes(before), Sighted::InLanes(now)) => {
             lanes_differ(before.as_slice(), now.as_slice())
         }
-        (Sighted::Words(_), Sighted::InLanes(_)) | (Sighted::InLanes(_), Sighted::Words(_)) => {
-            false
-        }
+        (Sighted::Sets(before), Sighted::Sets(now)) => is_set_on(direction, *before, *now),
+        (Sighted::Words(_), Sighted::InLanes(_) | Sighted::Sets(_))
+        | (Sighted::InLanes(_), Sighted::Words(_) | Sighted::Sets(_))
+        | (Sighted::Sets(_), Sighted::Words(_) | Sighted::InLanes(_)) => false,
+    }
+}
+
+/// Whether the step between two moments sets what is watched, which was made or taken back.
+fn is_set_on(direction: Direction, before: Ahead, now: Ahead) -> bool
+    ensures { result ≡ spec.is_set_on direction before now }
+{
+    match direction {
+        Direction::Forward => is_set(before, now),
+        Direction::Backward => is_set(now, before),
     }
 }

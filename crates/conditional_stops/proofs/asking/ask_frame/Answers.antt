@@ -11,7 +11,7 @@ pub returns-then-differs : goal.returns-then-differs
 returns-then-differs g c s began d st old new =
     let w = c.args.watch.now in
     let told = sym (c.differs.ensures (seen s began w) (seen s d w) old new) ∙ c.if-differs.true in
-    asked_changed s began d w (table_of c.args.conditions.now) (table_of c.ask.new.conditions) c.ask.result _ told
+    asked_changed c.args.direction s began d w (table_of c.args.conditions.now) (table_of c.ask.new.conditions) c.ask.result _ told
     (asks_one s d (reason.Watch (watch_number w)) (table_of c.args.conditions.now) (table_of c.ask.new.conditions) c.ask.result
     (subst (λ n. AsksOne s d (reason.Watch n) (table_of c.args.conditions.now) c.ask.result (table_of c.ask.new.conditions)) c.number.ensures (c.ask.ensures s d st)))
 
@@ -19,4 +19,4 @@ pub returns-else-differs : goal.returns-else-differs
 returns-else-differs g c s began d st old new =
     let w = c.args.watch.now in
     let told = sym (c.differs.ensures (seen s began w) (seen s d w) old new) ∙ c.if-differs.false in
-    asked_changed s began d w (table_of c.args.conditions.now) (table_of c.args.conditions.now) _ _ told (refl, refl)
+    asked_changed c.args.direction s began d w (table_of c.args.conditions.now) (table_of c.args.conditions.now) _ _ told (refl, refl)

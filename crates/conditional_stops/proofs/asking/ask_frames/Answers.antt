@@ -10,7 +10,7 @@ use Rattle.conditional_stops.proofs.asking.ask_frames.Goals as goal
 pub loop-watch-init : goal.loop-watch-init
 loop-watch-init g c = record {
   place = search rules;
-  asked = λ s began d st words after. none_asked s began d c.args.watches.now (table_of c.args.conditions.now);
+  asked = λ s began d st words after. none_asked c.args.direction s began d c.args.watches.now (table_of c.args.conditions.now);
 }
 
 pub loop-watch-preserved : goal.loop-watch-preserved
@@ -24,19 +24,19 @@ loop-watch-preserved g c = record {
       let middle = table_of c.loop-watch.conditions in
       let new = table_of c.ask_frame-counted.new.conditions in
       let counted = c.ask_frame-counted.result in
-      let there = subst (λ m. g.M.RecordedMachine.stands m s (bare d)) (sym c.machine.ensures) st.there in
+      let there = subst (λ m. g.M.RecordedMachine.stands m s (bare d)) (sym c.machine-machine.ensures) st.there in
       let inside = c.loop-watch-test.true in
       let place = c.loop-watch.invariant.place in
       let before = noted_then s began watches (sights_view c.args.before.now.items) c.loop-watch.place k w words place inside in
       let here = noted_then s d watches (sights_view c.args.here.now.items) c.loop-watch.place k w after place inside in
       let old = c.noted_sight-old.ensures _ _ before ∙ ap (λ w. Some (seen s began w)) (sym c.watch-item.is) in
       let new_one = c.noted_sight-new.ensures _ _ here ∙ ap (λ w. Some (seen s d w)) (sym c.watch-item.is) in
-      let one = subst (λ x. Asks s d (changed_frames s began d (x ∷ [])) middle counted new) c.watch-item.is (c.ask_frame-counted.ensures s began d there old new_one) in
-      subst (λ first. AskedFrames s began d watches (drop (k + 1) watches) table first new) (sym c.first_of-first.ensures)
-      (one_asked s began d watches k w table middle new c.loop-watch.first counted c.loop-watch-test.true (c.loop-watch.invariant.asked s began d st words after) one);
+      let one = subst (λ x. Asks s d (changed_frames c.args.direction s began d (x ∷ [])) middle counted new) c.watch-item.is (c.ask_frame-counted.ensures s began d there old new_one) in
+      subst (λ first. AskedFrames c.args.direction s began d watches (drop (k + 1) watches) table first new) (sym c.first_of-first.ensures)
+      (one_asked c.args.direction s began d watches k w table middle new c.loop-watch.first counted c.loop-watch-test.true (c.loop-watch.invariant.asked s began d st words after) one);
 }
 
 pub returns : goal.returns
 returns g c s began d st words after =
-    all_asked s began d c.args.watches.now c.loop-watch.watch-index (table_of c.args.conditions.now) (table_of c.loop-watch.conditions) c.loop-watch.first c.loop-watch-test.false
+    all_asked c.args.direction s began d c.args.watches.now c.loop-watch.watch-index (table_of c.args.conditions.now) (table_of c.loop-watch.conditions) c.loop-watch.first c.loop-watch-test.false
     (c.loop-watch.invariant.asked s began d st words after)

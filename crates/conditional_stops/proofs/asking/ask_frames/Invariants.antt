@@ -13,5 +13,5 @@ invariant-loop-watch g l = record {
   place : l.place ≡ l.watch-index;
   asked : (s : Setting) (began d : Debugger) → StandsFor g.M.RecordedMachine.stands l.session s d → sights_view l.before.items ≡ map (seen s began) l.watches
       → sights_view l.here.items ≡ map (seen s d) l.watches
-      → AskedFrames s began d l.watches (drop l.watch-index l.watches) (table_of l.initial.conditions) l.first (table_of l.conditions);
+      → AskedFrames l.direction s began d l.watches (drop l.watch-index l.watches) (table_of l.initial.conditions) l.first (table_of l.conditions);
 }

@@ -12,6 +12,6 @@ returns g c s began d st words sights here =
     let table = table_of c.args.conditions.now in
     let middle = table_of c.ask_all-stop.new.conditions in
     let new = table_of c.ask_frames-watch.new.conditions in
-    subst (λ first. Asks s d (reasons_on s began d watches) table first new) (sym c.first_of.ensures)
-    (asks_on s d (reasons s began d) (changed_frames s began d watches) table middle new c.ask_all-stop.result c.ask_frames-watch.result
+    subst (λ first. Asks s d (reasons_on c.args.direction s began d watches) table first new) (sym c.first_of.ensures)
+    (asks_on s d (reasons s began d) (changed_frames c.args.direction s began d watches) table middle new c.ask_all-stop.result c.ask_frames-watch.result
     (c.ask_all-stop.ensures s began d st words) (c.ask_frames-watch.ensures s began d st sights here))

@@ -11,6 +11,6 @@ returns-in-None g c s began d st words sights here =
     let watches = c.args.watches.now in
     let table = table_of c.args.conditions.now in
     let after = table_of c.ask_each.new.conditions in
-    let none = subst (λ first. Asks s d (reasons_on s began d watches) table first after) c.in-None.is (c.ask_each.ensures s began d st words sights here) in
+    let none = subst (λ first. Asks s d (reasons_on way s began d watches) table first after) c.in-None.is (c.ask_each.ensures s began d st words sights here) in
     subst (λ ended. EndsHere s way watches began d table ended after) (sym c.end_by.ensures)
     (last_ended s way watches began d table after c.last_answer.result none (sym (c.last_answer.ensures s d st)))
