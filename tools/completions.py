@@ -16,7 +16,8 @@ FILES = ("FILE", "SOURCE")  # the names of values that are files
 PAGES = "NAME"  # the name of the argument of `explain`
 SOURCE = b"export void go() { }\n"
 NUMBERED = [f"{letter}{number}" for letter in "SEIFC" for number in range(1, 20)]
-USAGE, COMMAND = re.compile(r"^(\S+)(?: .*?)?  +\S", re.M), re.compile(r"`info` lists: (.*?)\.$", re.M)
+# A line of the list has the word with how it is used in 20 columns, the last of them a blank.
+USAGE, COMMAND = re.compile(r"^(?=.{19} \S)([a-z/-]+) .*", re.M), re.compile(r"`info` lists: (.*?)\.$", re.M)
 
 
 def explained(program):

@@ -1,7 +1,7 @@
 -- Where no condition and no count is there, nothing is disabled, and it is not watched what a frame shows, a line is a list of commands; or it is to
 -- watch an expression, there was no memory to read that, and nothing was done.
-use Rattle.std.proofs.Common.{◌≡◌, refl, ℕ, Bool, true, false, List, [], length, Option, None, Some, subst, ap, inl, inr}
-use Rattle.std.specs.Prelude.{◌⊎◌, ◌==◌, ◌||◌, not, if◌then◌else◌}
+use Rattle.std.proofs.Common.{◌≡◌, refl, ℕ, Bool, true, false, List, [], length, Option, None, Some, subst, ap, ◌∙◌, inl, inr}
+use Rattle.std.specs.Prelude.{◌⊎◌, ◌==◌, ◌||◌, ◌&&◌, not, if◌then◌else◌}
 use Rattle.gang_model.specs.Debugger.Debugger.{Debugger, Setting, Target}
 use Rattle.gang_model.specs.Texts.CommandText.{command_of}
 use Rattle.debug_session.specs.declared.session.Session.{Session}
@@ -14,7 +14,7 @@ use Rattle.prompt_lines.specs.Sources.{Sheet}
 use Rattle.prompt_lines.specs.Words.{Spelled, is_alone}
 use Rattle.prompt_scenes.specs.Holding.{Held}
 use Rattle.prompt_scenes.specs.Readings.{watch_of}
-use Rattle.prompt_stops.specs.Breaking.{DoesWatch, after_watch, watched, written_in}
+use Rattle.prompt_stops.specs.Breaking.{DoesWatch, WatchesBy, after_watch, after_watch_by, watched, watched_by, write_name, written_in}
 use Rattle.prompt_going.specs.GoingOn.{Does, DoesOwn, DoesTyped, way_of}
 use Rattle.debug_prompt.specs.Doing.{changed_by, commands_by, commands_of, held_after, meant}
 use Rattle.debug_prompt.specs.Lines.{DoesKind, DoesLine, DoesRun}
@@ -30,6 +30,11 @@ module _ {M : Type 0} (stands : M → Setting → Debugger → Type 0) (sheet : 
   by_target None text condition false new does = inl does
   by_target (Some target) text condition refused new does = inl does
 
+  by_name : (name : Option (List ℕ)) (target : Option Target) (text condition : Option (List ℕ)) (new : Held) → WatchesBy stands s d h name target text condition session new
+      → Does stands s d (watched_by s d h name target text) (after_watch_by s d h name target text condition) session new ⊎ Does stands s d [] h session new
+  by_name None target text condition new watches = by_target target text condition watches.refused new watches.does
+  by_name (Some name) target text condition new does = inl does
+
   or_none : {A B C : Type 0} → C → A ⊎ B → A ⊎ (C × B)
   or_none c (inl a) = inl a
   or_none c (inr b) = inr (c, b)
@@ -40,9 +45,9 @@ module _ {M : Type 0} (stands : M → Setting → Debugger → Type 0) (sheet : 
       inl (subst (λ way. DoesOwn stands s d h (command_of text) way session new) (ap (λ (table : Table). if is_nothing table then None else way_of (command_of text)) none)
       (subst (λ way. DoesTyped stands s d h (command_of text) way session new) (ap (λ (frames : List Watch). if length frames == 0 then None else way_of (command_of text)) few) does))
   plain_kind new kind.Run text none few does =
-      inl (subst (λ plain. DoesRun stands sheet s d h text plain session new) (ap (λ (table : Table). is_nothing table || not (is_alone text)) none) does)
+      inl (subst (λ plain. DoesRun stands sheet s d h text plain session new) (ap (λ (table : Table). (is_nothing table && (length h.frames == 0)) || not (is_alone text)) none ∙ ap (λ (frames : List Watch). (length frames == 0) || not (is_alone text)) few) does)
   plain_kind new kind.Watch text none few watches =
-      or_none refl (by_target (watch_of (command_of (before_if text))) (written_in text) (condition_in text) watches.refused new watches.does)
+      or_none refl (by_name (write_name text) (watch_of (command_of (before_if text))) (written_in text) (condition_in text) new watches)
   plain_kind new other text none few does = inl does
 
   -- the commands of a line are done, and nothing else; or nothing, where memory was wanting to read what is to be watched

@@ -21,7 +21,7 @@ use Rattle.prompt_scenes.specs.declared.holding.LastMove.TheVariants as last
 use Rattle.prompt_moves.specs.Following.{begun, follows}
 use Rattle.prompt_moves.specs.Moments.{all_back, at_first, is_unset, is_whole, to_moment}
 use Rattle.prompt_moves.specs.Pieces.{at_breakpoint, continued}
-use Rattle.prompt_stops.specs.Breaking.{means_at, numbered, spot_of, text_watched, watched_as, written_in}
+use Rattle.prompt_stops.specs.Breaking.{means_at, numbered, spot_of, text_watched, watched_as, write_name, writes_by, written_in}
 use Rattle.prompt_past.specs.FramePast.{is_kept, is_later}
 use Rattle.prompt_going.specs.GoingOn.{walks_by, way_by}
 use Rattle.debug_prompt.specs.Doing.{commands_of, held_after, kept_after}
@@ -225,6 +225,23 @@ watch_if_row = refl
 -- where the frame that is selected stands at no step, nothing is watched
 no_step_row : (s : Setting) (d : Debugger) (text : List ℕ) → spot_of s d held_at_start ≡ None → text_watched s d held_at_start (Some text) ≡ []
 no_step_row s d text none = ap (λ spot. if means_at s.program text spot then numbered s d else []) none
+
+-- `-w` before a name: what sets the variable is watched; of a word alone, or before anything else, it is not that
+writes_row : write_name (codes "watch  -w  total  if k > 1") ≡ Some (codes "total")
+writes_row = refl
+
+negated_row : write_name (codes "watch -w") ≡ None
+negated_row = refl
+
+other_word_row : write_name (codes "watch -word total") ≡ None
+other_word_row = refl
+
+-- a number is taken for it; a name that stands for no scalar takes none
+scalar_row : (s : Setting) (d : Debugger) → writes_by s d held_at_start (Some (id.File 0)) ≡ numbered s d
+scalar_row s d = refl
+
+no_scalar_row : (s : Setting) (d : Debugger) → writes_by s d held_at_start None ≡ []
+no_scalar_row s d = refl
 
 in_depth : ℕ → ℕ → Watch
 in_depth number deep = watch.Variable (record { number = number; depth = deep; id = id.Local 4; at = None; name = record { items = codes "v" } })

@@ -19,7 +19,7 @@ use Rattle.prompt_moves.specs.Noted.{after_checkpoint, after_forget, after_go, g
 use Rattle.prompt_moves.specs.Following.{after_command, after_own, done_with, own, printed, shown}
 use Rattle.prompt_moves.specs.Beginning.{after_run_by, after_start, run_by, start_by}
 use Rattle.prompt_moves.specs.Breakpoints.{stop_on}
-use Rattle.prompt_stops.specs.Breaking.{after_break, after_deletes, after_disable, after_enable, after_made, after_watch, broken, cleared, deletes_by, watched, written_in}
+use Rattle.prompt_stops.specs.Breaking.{after_break, after_deletes, after_disable, after_enable, after_made, after_watch_by, broken, cleared, deletes_by, watched_by, write_name, written_in}
 use Rattle.prompt_past.specs.Past.{after_last_of, changes_of, last_of}
 use Rattle.prompt_walks.specs.Walks.{lanes_by, when_by}
 use Rattle.prompt_going.specs.Until.{after_until, until_line}
@@ -46,7 +46,7 @@ commands_by kind.Run sheet s d h text = if is_alone text then run_by s d h else 
 commands_by kind.Start sheet s d h text = if is_alone text then start_by d h else []
 commands_by kind.Clear sheet s d h text = cleared (stop_on s d (line_named sheet text))
 commands_by kind.Temporary sheet s d h text = broken (line_named sheet (before_if text))
-commands_by kind.Watch sheet s d h text = watched s d h (watch_of (command_of (before_if text))) (written_in text)
+commands_by kind.Watch sheet s d h text = watched_by s d h (write_name text) (watch_of (command_of (before_if text))) (written_in text)
 commands_by kind.Delete sheet s d h text = deletes_by d h (delete_of (command_of text)) text
 commands_by kind.Until sheet s d h text = if is_alone text then done_with s d h (DoNext 1) else until_line s d h (line_named sheet text)
 commands_by kind.Display sheet s d h text = in_top h (if is_alone text then shown h.displays else printed (print_of (command_of text)))
@@ -71,7 +71,7 @@ changed_by kind.Start sheet s d h text = if is_alone text then after_start d h e
 changed_by kind.Until sheet s d h text = if is_alone text then after_command s d h (DoNext 1) else after_until s d h (line_named sheet text)
 changed_by kind.Break sheet s d h text = after_made s d h (line_named sheet (before_if text)) (condition_in text)
 changed_by kind.Temporary sheet s d h text = after_made s d (after_break s d h (line_named sheet (before_if text))) (line_named sheet (before_if text)) (condition_in text)
-changed_by kind.Watch sheet s d h text = after_watch s d h (watch_of (command_of (before_if text))) (written_in text) (condition_in text)
+changed_by kind.Watch sheet s d h text = after_watch_by s d h (write_name text) (watch_of (command_of (before_if text))) (written_in text) (condition_in text)
 changed_by kind.Clear sheet s d h text = forgotten_one (stop_on s d (line_named sheet text)) h
 changed_by kind.Delete sheet s d h text = after_deletes d h (delete_of (command_of text)) text
 changed_by kind.Disable sheet s d h text = after_disable d h text

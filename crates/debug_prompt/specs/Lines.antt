@@ -1,7 +1,7 @@
 -- What is done for a line, where conditions or counts are there or something is disabled, and where none is. With none it is a list of
 -- commands (`commands_of`), but that there may be no memory to read an expression that is to be watched. With some, `continue`, `reverse-continue` and `run` go on to a breakpoint or watch that counts, and how often a command is done for
 -- that depends on what the conditions come to.
-use Rattle.std.specs.Prelude.{◌≡◌, ◌==◌, ℕ, ◌||◌, ◌&&◌, Bool, true, false, not, List, min, nat_lt, Option, Some, None, option_map, if◌then◌else◌}
+use Rattle.std.specs.Prelude.{◌≡◌, ◌==◌, ℕ, ◌||◌, ◌&&◌, Bool, true, false, not, List, min, nat_lt, Option, Some, None, option_map, if◌then◌else◌, length}
 use Rattle.gang_model.specs.Debugger.Debugger.{Debugger, Setting, Target, depth, kept_steps, now}
 use Rattle.gang_model.specs.Texts.CommandText.{command_of}
 use Rattle.debug_session.specs.declared.session.Session.{Session}
@@ -17,9 +17,13 @@ use Rattle.prompt_scenes.specs.Readings.{watch_of}
 use Rattle.prompt_scenes.specs.FrameWatches.{ended, known, local_named}
 use Rattle.prompt_scenes.specs.Holding.{Held}
 use Rattle.prompt_moves.specs.Moments.{is_whole}
-use Rattle.prompt_stops.specs.Breaking.{Watches, written_in}
+use Rattle.prompt_stops.specs.Breaking.{WatchesBy, write_name, written_in}
 use Rattle.prompt_going.specs.GoingOn.{Does, DoesTyped, Runs, walks_by}
 use Rattle.debug_prompt.specs.Doing.{changed_by, commands_by, meant}
+
+-- whether `run` is a list of commands: nothing is said of any stop, and none are watched step by step; or more than one word was typed
+abbrev pub runs_plainly : Held → (text : List ℕ) → Bool
+runs_plainly h text = (is_nothing h.table && (length h.frames == 0)) || not (is_alone text)
 
 -- `run`
 abbrev pub DoesRun : {M : Type 0} → (M → Setting → Debugger → Type 0) → Sheet → Setting → Debugger → Held → (text : List ℕ) → (plain : Bool) → Session M → Held → Type 0
@@ -29,9 +33,9 @@ DoesRun stands sheet s d h text false session new = Runs stands s d h.has_begun 
 -- what is done with a command line of a kind
 abbrev pub DoesKind : {M : Type 0} → (M → Setting → Debugger → Type 0) → Kind → Sheet → Setting → Debugger → Held → (text : List ℕ) → Session M → Held → Type 0
 DoesKind stands kind.Own sheet s d h text session new = DoesTyped stands s d h (command_of text) (walks_by h (command_of text)) session new
-DoesKind stands kind.Run sheet s d h text session new = DoesRun stands sheet s d h text (is_nothing h.table || not (is_alone text)) session new
+DoesKind stands kind.Run sheet s d h text session new = DoesRun stands sheet s d h text (runs_plainly h text) session new
 DoesKind stands kind.Watch sheet s d h text session new =
-    Watches stands s d h (watch_of (command_of (before_if text))) (written_in text) (condition_in text) session new
+    WatchesBy stands s d h (write_name text) (watch_of (command_of (before_if text))) (written_in text) (condition_in text) session new
 DoesKind stands other sheet s d h text session new = Does stands s d (commands_by other sheet s d h text) (changed_by other sheet s d h text) session new
 
 -- the depth of the frame that is selected, where a target names a variable of it

@@ -1,10 +1,8 @@
 //! `run`, and the debugger's own words.
-ghost use Rattle.std.specs.Prelude.{◌≡◌, ◌||◌, None, not};
+ghost use Rattle.std.specs.Prelude.{◌≡◌, None};
 ghost use Rattle.gang_model.specs.Debugger.Debugger.{Debugger, Setting};
 ghost use Rattle.gang_model.specs.Texts.CommandText.{command_of};
-ghost use Rattle.conditional_stops.specs.Tables as tables;
 ghost use Rattle.debug_session.specs.Sessions.{StandsFor};
-ghost use Rattle.prompt_lines.specs.Words.{is_alone};
 ghost use Rattle.prompt_scenes.specs.Holding.{held, sheet};
 ghost use Rattle.prompt_going.specs.GoingOn as going_on;
 ghost use Rattle.prompt_texts.specs.Shown.{Puts};
@@ -23,8 +21,8 @@ use prompt_scenes::{Holding, Scene};
 use prompt_texts::{Page, tell_unknown};
 use prompt_values::Values;
 
-/// Begins the program, or, where it has begun, takes everything back and begins it anew: on to a stop that counts, where conditions or
-/// counts are there.
+/// Begins the program, or, where it has begun, takes everything back and begins it anew: on to a stop that counts, where conditions,
+/// counts or watches by steps are there.
 pub(crate) fn run_to_stop<M: ExpressionMachine, O: AnswerWriter + Drop>(
     text: &[u8],
     holding: &mut Holding,
@@ -33,13 +31,20 @@ pub(crate) fn run_to_stop<M: ExpressionMachine, O: AnswerWriter + Drop>(
     page: &mut Page<O>,
 )
     ensures { (s : Setting) (d : Debugger) → StandsFor M.stands session.old s d → s.limit ≡ scene.entry.most_steps
-        → lines.DoesRun M.stands (sheet scene.entry.source) s d (held holding.old) text.now (tables.is_nothing (held holding.old).table || not (is_alone text.now)) session.new (held holding.new) }
+        → lines.DoesRun M.stands (sheet scene.entry.source) s d (held holding.old) text.now (lines.runs_plainly (held holding.old) text.now) session.new (held holding.new) }
 {
-    if holding.conditions.is_empty() || !is_alone(text) {
+    if runs_plainly(text, holding) {
         run(text, holding, scene, session, page);
     } else {
         begin_run(holding, scene, session, page);
     }
+}
+
+/// Whether `run` is a list of commands: nothing is said of any stop, and none are watched step by step; or more than one word was typed.
+fn runs_plainly(text: &[u8], holding: &Holding) -> bool
+    ensures { result ≡ lines.runs_plainly (held holding.now) text.now }
+{
+    (holding.conditions.is_empty() && !holding.has_frames()) || !is_alone(text)
 }
 
 /// Does the command that a command line spells; where it spells none and asks for the values that were printed, lists those.

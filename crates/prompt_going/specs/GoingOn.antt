@@ -76,9 +76,14 @@ abbrev pub DoesTyped : {M : Type 0} → (M → Setting → Debugger → Type 0) 
 DoesTyped stands s d h command None session new = DoesOwn stands s d h command (way_by h command) session new
 DoesTyped stands s d h command (Some way) session new = WalksToStop stands s way d h session new
 
+-- the program goes on, by single steps where any are watched
+abbrev pub GoesForward : {M : Type 0} → (M → Setting → Debugger → Type 0) → Setting → Debugger → Held → (none_watched : Bool) → Session M → Held → Type 0
+GoesForward stands s d h true session new = GoesToStop stands s direction.Forward d h session new
+GoesForward stands s d h false session new = WalksToStop stands s direction.Forward d h session new
+
 -- the program begins: a breakpoint that counts stops it at once, else it goes on
 abbrev pub BeginsBy : {M : Type 0} → (M → Setting → Debugger → Type 0) → Setting → Debugger → Option CountedStop → Held → Session M → Held → Type 0
-BeginsBy stands s d None h session new = GoesToStop stands s direction.Forward d h session new
+BeginsBy stands s d None h session new = GoesForward stands s d h (length h.frames == 0) session new
 BeginsBy stands s d (Some counted) h session new = Does stands s d (follows h (answer_at counted.reason)) (begun h (answer_at counted.reason)) session new
 
 -- the breakpoints on the line where it begins are asked first
@@ -89,7 +94,11 @@ pub record Begins {M : Type 0} (stands : M → Setting → Debugger → Type 0) 
   pub begins : BeginsBy stands s d first (record h { table = table }) session new
 
 -- a program that has begun begins anew where everything can be taken back: after as many `undo` it is at its first state
+abbrev pub RunsBy : {M : Type 0} → (M → Setting → Debugger → Type 0) → Setting → Debugger → (has_begun whole : Bool) → Held → Session M → Held → Type 0
+RunsBy stands s d false whole h session new = Begins stands s d h session new
+RunsBy stands s d true true h session new = Begins stands s (at_first d) h session new
+RunsBy stands s d true false h session new = Does stands s d [] h session new
+
+-- the same, where the watches of frames end first
 abbrev pub Runs : {M : Type 0} → (M → Setting → Debugger → Type 0) → Setting → Debugger → (has_begun whole : Bool) → Held → Session M → Held → Type 0
-Runs stands s d false whole h session new = Begins stands s d h session new
-Runs stands s d true true h session new = Begins stands s (at_first d) h session new
-Runs stands s d true false h session new = Does stands s d [] h session new
+Runs stands s d has_begun whole h session new = RunsBy stands s d has_begun whole (ended 0 h) session new

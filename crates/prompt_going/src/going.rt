@@ -1,5 +1,5 @@
 //! `continue`, `reverse-continue` and `run` where conditions or counts are there.
-ghost use Rattle.std.specs.Prelude.{◌≡◌};
+ghost use Rattle.std.specs.Prelude.{◌≡◌, ◌==◌, length};
 ghost use Rattle.gang_model.specs.Debugger.Debugger.{Debugger, Setting};
 ghost use Rattle.gang_model.specs.Texts.CommandText.{command_of};
 ghost use Rattle.conditional_stops.specs.Going.{GoesOn, answer_at};
@@ -20,7 +20,7 @@ use debug_traits::{AnswerWriter, RecordedMachine};
 use frame_expressions::ExpressionMachine;
 use prompt_moves::{ANEW, follow, is_whole, take_all_back};
 use prompt_scenes::{Holding, Scene};
-use prompt_stops::{list_frames, tell_all_lines, tell_walked};
+use prompt_stops::{list_frames, tell_all_lines, tell_ended, tell_walked};
 use prompt_texts::{Before, Page, show_here, tell_move, tell_not_whole};
 use prompt_values::{tell_conditions, tell_counted, tell_moved};
 use std::alloc::Global;
@@ -236,7 +236,7 @@ fn tell_end<M: ExpressionMachine, O: AnswerWriter + Drop>(
     }
 }
 
-/// Begins the program, or begins it anew, on to a stop that counts.
+/// Begins the program, or begins it anew, on to a stop that counts. The watches of frames end first.
 pub fn begin_run<M: ExpressionMachine, O: AnswerWriter + Drop>(
     holding: &mut Holding,
     scene: Scene<'_>,
@@ -246,6 +246,9 @@ pub fn begin_run<M: ExpressionMachine, O: AnswerWriter + Drop>(
     ensures { (s : Setting) (d : Debugger) → StandsFor M.stands session.old s d
         → going_on.Runs M.stands s d (held holding.old).has_begun (moments.is_whole d) (held holding.old) session.new (held holding.new) }
 {
+    let steps = session.machine().kept_steps();
+    tell_ended(0, steps, holding, session, page);
+    holding.end_frames(0);
     if !holding.has_begun() {
         begin_here(holding, scene, session, page);
     } else if is_whole(session) {
@@ -268,8 +271,25 @@ fn begin_here<M: ExpressionMachine, O: AnswerWriter + Drop>(
         → going_on.Begins M.stands s d (held holding.old) session.new (held holding.new) }
 {
     match ask_breakpoints(scene.alloc, &mut holding.conditions, session) {
-        None => go_to_stop(Direction::Forward, holding, scene, session, page),
+        None => go_forward(holding, scene, session, page),
         Some(counted) => stop_at_once(counted, holding, scene, session, page),
+    }
+}
+
+/// Goes on to a stop that counts, by single steps where any are watched.
+fn go_forward<M: ExpressionMachine, O: AnswerWriter + Drop>(
+    holding: &mut Holding,
+    scene: Scene<'_>,
+    session: &mut Session<M>,
+    page: &mut Page<O>,
+)
+    ensures { (s : Setting) (d : Debugger) → StandsFor M.stands session.old s d
+        → going_on.GoesForward M.stands s d (held holding.old) (length (held holding.old).frames == 0) session.new (held holding.new) }
+{
+    if holding.has_frames() {
+        walk_to_stop(Direction::Forward, holding, scene, session, page);
+    } else {
+        go_to_stop(Direction::Forward, holding, scene, session, page);
     }
 }
 

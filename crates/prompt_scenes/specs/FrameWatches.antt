@@ -12,6 +12,7 @@ use Rattle.expression_watches.specs.declared.sights.ExpressionWatch.{ExpressionW
 use Rattle.conditional_stops.specs.declared.sights.FrameWatch.{FrameWatch}
 use Rattle.conditional_stops.specs.declared.watches.Watch.{Watch}
 use Rattle.conditional_stops.specs.declared.watches.Watch.TheVariants as watch
+use Rattle.conditional_stops.specs.declared.writes.WriteWatch.{WriteWatch}
 use Rattle.conditional_stops.specs.Tables.{Table, without}
 use Rattle.conditional_stops.specs.Watches.{watch_depth, watch_number}
 use Rattle.prompt_lines.specs.declared.line.Kind.{Kind}
@@ -40,6 +41,20 @@ if_watched state target (Some v) = if can_watch v.id v.is_array v.rate (length (
 abbrev pub local_named : Setting → Debugger → (depth : ℕ) → Target → Option VarId
 local_named s d deep target = if_watched (state_at deep (now s d)) target (found_at s.program deep (now s d) target.name)
 
+-- the scalar that a name stands for, whose name is not too long
+abbrev pub if_scalar : (name : List ℕ) → Option Variable → Option VarId
+if_scalar name None = None
+if_scalar name (Some v) = if not v.is_array && nat_le (length name) 256 then Some v.id else None
+
+-- the scalar of the frame at a depth, or of the file, that a name stands for there
+abbrev pub scalar_named : Setting → Debugger → (depth : ℕ) → (name : List ℕ) → Option VarId
+scalar_named s d deep name = if_scalar name (found_at s.program deep (now s d) name)
+
+-- the depth of the frame whose variable it is, 0 for one of the file
+abbrev pub own_depth : (depth : ℕ) → VarId → ℕ
+own_depth deep (id.File number) = 0
+own_depth deep (id.Local number) = deep
+
 -- ---- the watches that are held
 
 -- whether a watch of a frame has a number
@@ -60,6 +75,16 @@ with_frame (Some number) target deep v h =
 abbrev pub with_expression : Option ExpressionWatch → Held → Held
 with_expression None h = h
 with_expression (Some w) h = if nat_lt (length h.frames) 16 then record h { frames = h.frames ++ watch.Expression w ∷ [] } else h
+
+-- a watch of what sets a variable that is in sight in the frame at a depth
+abbrev pub write_watch : ℕ → (name : List ℕ) → (depth : ℕ) → VarId → WriteWatch
+write_watch number name deep v = record { number = number; depth = own_depth deep v; id = v; name = record { items = name } }
+
+-- what sets a variable is watched from now on by a number that was found, where fewer than 16 watches are there
+abbrev pub with_writes : Option ℕ → (name : List ℕ) → (depth : ℕ) → VarId → Held → Held
+with_writes None name deep v h = h
+with_writes (Some number) name deep v h =
+    if nat_lt (length h.frames) 16 && nat_le (length name) 256 then record h { frames = h.frames ++ watch.Writes (write_watch number name deep v) ∷ [] } else h
 
 -- what was deleted is watched no more: one watch, or all
 abbrev pub without_frames : Option (Option ℕ) → Held → Held

@@ -7,9 +7,9 @@ ghost use Rattle.prompt_scenes.specs.Conditions as conditions;
 ghost use Rattle.prompt_scenes.specs.Changes as changes;
 ghost use Rattle.prompt_scenes.specs.FrameWatches as frames;
 
-use crate::watching::forget_deeper;
+use crate::watching::{forget_deeper, own_depth};
 use arrayvec::ArrayVec;
-use conditional_stops::{Conditions, FrameWatch, Watch};
+use conditional_stops::{Conditions, FrameWatch, Watch, WriteWatch};
 use debug_commands::Target;
 use expression_watches::ExpressionWatch;
 use gang_types::VarId;
@@ -389,6 +389,26 @@ impl Holding {
         };
         if !self.frames.is_full() {
             self.frames.push(Watch::Expression(watch));
+        }
+    }
+
+    /// Watches what sets a variable that is in sight in the frame at a depth, by a number, if one was found, where there is room.
+    pub fn add_writes(&mut self, number: Option<u32>, name: &[u8], depth: usize, id: VarId)
+        ensures { held self.new ≡ frames.with_writes number name.now depth id (held self.old) }
+    {
+        let Some(number) = number else {
+            return;
+        };
+        let Ok(name) = ArrayVec::try_from(name) else {
+            return;
+        };
+        if !self.frames.is_full() {
+            self.frames.push(Watch::Writes(WriteWatch {
+                number,
+                depth: own_depth(depth, id),
+                id,
+                name,
+            }));
         }
     }
 

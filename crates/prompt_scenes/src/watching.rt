@@ -1,4 +1,4 @@
-//! Watches of variables of frames: how they are made, and when they end.
+//! Watches of variables of frames, and of what sets a variable: how they are made, and when they end.
 ghost use Rattle.std.specs.Prelude.{◌≡◌, is_none, false};
 ghost use Rattle.gang_model.specs.Debugger.Debugger as model;
 ghost use Rattle.gang_model.specs.Debugger.Debugger.{Debugger, Setting};
@@ -46,6 +46,28 @@ fn is_part(shown: Shown, at: Option<u32>) -> bool
         None => !shown.is_array,
         Some(_) if !shown.is_array && shown.rate == Rate::Uniform => false,
         Some(index) => (index as usize) < shown.count,
+    }
+}
+
+/// The scalar of the frame at a depth, or of the file, that a name stands for there.
+pub fn scalar_named<M: FramedMachine>(name: &[u8], depth: usize, machine: &M) -> Option<VarId>
+    ensures { (s : Setting) (d : Debugger) → M.stands machine.now s d → result ≡ frames.scalar_named s d depth name.now }
+{
+    let shown = machine.find_at(depth, name)?;
+    if !shown.is_array && name.len() <= LONGEST_NAME {
+        Some(shown.id)
+    } else {
+        None
+    }
+}
+
+/// The depth of the frame whose variable it is that is in sight in the frame at a depth, 0 for one of the file.
+pub(crate) fn own_depth(depth: usize, id: VarId) -> usize
+    ensures { result ≡ frames.own_depth depth id }
+{
+    match id {
+        VarId::File(_) => 0,
+        VarId::Local(_) => depth,
     }
 }
 

@@ -1,5 +1,5 @@
 -- Breakpoints and watches, as lines make, change and delete them.
-use Rattle.std.specs.Prelude.{◌≡◌, ℕ, ◌&&◌, Bool, false, true, nat_lt, List, [], ◌∷◌, ◌++◌, length, Option, Some, None, if◌then◌else◌}
+use Rattle.std.specs.Prelude.{◌≡◌, ℕ, ◌&&◌, Bool, bytes_eq, codes, false, true, nat_lt, List, [], ◌∷◌, ◌++◌, length, Option, Some, None, if◌then◌else◌}
 use Rattle.gang_types.specs.declared.places.Spot.{Spot}
 use Rattle.gang_types.specs.declared.places.VarId.{VarId}
 use Rattle.gang_model.specs.Debugger.Debugger.{Command, Debugger, DoBreak, DoDelete, DoWatch, Setting, Target, do_command, now}
@@ -10,10 +10,10 @@ use Rattle.command_lists.specs.Lists.{HasDone}
 use Rattle.expression_watches.specs.declared.sights.ExpressionWatch.{ExpressionWatch}
 use Rattle.expression_watches.specs.Meanings.{is_meant}
 use Rattle.expression_watches.specs.Sights as expression
-use Rattle.prompt_lines.specs.Conditions.{before_if, behind_first}
+use Rattle.prompt_lines.specs.Conditions.{before_if, behind_first, first_word}
 use Rattle.prompt_lines.specs.Numbers.{are_numbers}
 use Rattle.prompt_scenes.specs.Conditions.{forgotten_by, made_so}
-use Rattle.prompt_scenes.specs.FrameWatches.{is_frame, local_named, with_expression, with_frame, without_frames}
+use Rattle.prompt_scenes.specs.FrameWatches.{is_frame, local_named, scalar_named, with_expression, with_frame, with_writes, without_frames}
 use Rattle.prompt_scenes.specs.Holding.{Held}
 use Rattle.prompt_scenes.specs.SelectedFrame.{depth_of}
 use Rattle.prompt_scenes.specs.Readings.{made_number, trimmed, watch_number}
@@ -82,6 +82,27 @@ if_any (byte ∷ bytes) = Some (byte ∷ bytes)
 abbrev pub written_in : (text : List ℕ) → Option (List ℕ)
 written_in text = if nat_lt (length text) 257 then if_any (trimmed (behind_first (before_if text))) else None
 
+-- the name behind `-w`
+abbrev pub name_behind : (text : List ℕ) → Option (List ℕ)
+name_behind text = if bytes_eq (first_word text) (codes "-w") then if_any (trimmed (behind_first text)) else None
+
+abbrev pub name_in : Option (List ℕ) → Option (List ℕ)
+name_in None = None
+name_in (Some text) = name_behind text
+
+-- the name of the variable that a line names to watch what sets it
+abbrev pub write_name : (text : List ℕ) → Option (List ℕ)
+write_name text = name_in (written_in text)
+
+-- what sets a scalar is watched by a number that is taken, where there is room
+abbrev pub writes_by : Setting → Debugger → Held → (scalar : Option VarId) → List Command
+writes_by s d h None = []
+writes_by s d h (Some v) = if nat_lt (length h.frames) 16 then numbered s d else []
+
+-- the same of a name in the frame that is selected
+abbrev pub writes_watched : Setting → Debugger → Held → (name : List ℕ) → List Command
+writes_watched s d h name = writes_by s d h (scalar_named s d (depth_of s d h) name)
+
 -- whether a text means an expression at a step, if there is one
 abbrev pub means_at : Program → (text : List ℕ) → Option Spot → Bool
 means_at p text None = false
@@ -132,6 +153,16 @@ abbrev pub after_watch : Setting → Debugger → Held → Option Target → (te
 after_watch s d h None text condition = text_watched_then s d h text condition
 after_watch s d h (Some target) text condition = watched_then s d h target (local_named s d (depth_of s d h) target) condition
 
+-- what is held where what sets a scalar is watched, with its condition
+abbrev pub writes_then : Setting → Debugger → Held → (name : List ℕ) → (scalar : Option VarId) → (condition : Option (List ℕ)) → Held
+writes_then s d h name None condition = h
+writes_then s d h name (Some v) condition =
+    if nat_lt (length h.frames) 16 then made_so (taken s d) condition (with_writes (taken s d) name (depth_of s d h) v h) else h
+
+-- the same of a name in the frame that is selected
+abbrev pub writes_watched_then : Setting → Debugger → Held → (name : List ℕ) → (condition : Option (List ℕ)) → Held
+writes_watched_then s d h name condition = writes_then s d h name (scalar_named s d (depth_of s d h) name) condition
+
 -- what a line that watches comes to: it is done as these say; or there was no memory to read the text, and nothing is done
 abbrev pub DoesWatch : {M : Type 0} → (M → Setting → Debugger → Type 0) → Setting → Debugger → Held → Option Target → (text condition : Option (List ℕ)) → (refused : Bool) → Session M → Held → Type 0
 DoesWatch stands s d h None text condition true session new = HasDone stands s [] d session × (new ≡ h)
@@ -141,6 +172,21 @@ DoesWatch stands s d h target text condition refused session new = HasDone stand
 pub record Watches {M : Type 0} (stands : M → Setting → Debugger → Type 0) (s : Setting) (d : Debugger) (h : Held) (target : Option Target) (text condition : Option (List ℕ)) (session : Session M) (new : Held) : Type 0 where
   pub refused : Bool
   pub does : DoesWatch stands s d h target text condition refused session new
+
+-- the commands of a line that watches what sets the variable of a name; where it names none, a target or a text
+abbrev pub watched_by : Setting → Debugger → Held → (name : Option (List ℕ)) → Option Target → (text : Option (List ℕ)) → List Command
+watched_by s d h None target text = watched s d h target text
+watched_by s d h (Some name) target text = writes_watched s d h name
+
+-- what is held then
+abbrev pub after_watch_by : Setting → Debugger → Held → (name : Option (List ℕ)) → Option Target → (text condition : Option (List ℕ)) → Held
+after_watch_by s d h None target text condition = after_watch s d h target text condition
+after_watch_by s d h (Some name) target text condition = writes_watched_then s d h name condition
+
+-- such a line is done; for a text there may have been no memory
+abbrev pub WatchesBy : {M : Type 0} → (M → Setting → Debugger → Type 0) → Setting → Debugger → Held → (name : Option (List ℕ)) → Option Target → (text condition : Option (List ℕ)) → Session M → Held → Type 0
+WatchesBy stands s d h None target text condition session new = Watches stands s d h target text condition session new
+WatchesBy stands s d h (Some name) target text condition session new = HasDone stands s (writes_watched s d h name) d session × (new ≡ writes_watched_then s d h name condition)
 
 -- what was deleted is forgotten: one, or all, or those that a line names
 abbrev pub after_named : Debugger → Held → (text : List ℕ) → Held

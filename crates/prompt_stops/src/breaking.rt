@@ -21,6 +21,7 @@ use crate::expressions::watch_written;
 use crate::numbers::delete_named;
 use crate::taking::take_number;
 use crate::watches::{tell_deleted, tell_made};
+use crate::writes::{watch_writes, write_name};
 use debug_answers::NumberedStop;
 use debug_commands::{Command, Target};
 use debug_session::Session;
@@ -124,6 +125,24 @@ fn break_once<M: RecordedMachine, O: AnswerWriter + Drop>(
 /// Makes a watch, with a condition where the line goes on with `if`: of a target, else of an expression in the frame that is selected. Where
 /// there is no memory to read the expression, nothing is done.
 pub fn make_watch<M: ExpressionMachine, O: AnswerWriter + Drop>(
+    text: &[u8],
+    holding: &mut Holding,
+    scene: Scene<'_>,
+    session: &mut Session<M>,
+    page: &mut Page<O>,
+)
+    ensures { (s : Setting) (d : Debugger) → StandsFor M.stands session.old s d
+        → breaking.WatchesBy M.stands s d (held holding.old) (breaking.write_name text.now) (readings.watch_of (command_of (before_if text.now))) (breaking.written_in text.now)
+        (condition_in text.now) session.new (held holding.new) }
+{
+    match write_name(text) {
+        Some(name) => watch_writes(name, condition_in(text), holding, scene, session, page),
+        None => watch_shown(text, holding, scene, session, page),
+    }
+}
+
+/// Makes a watch of the target or the expression that a line names, with a condition where the line goes on with `if`.
+fn watch_shown<M: ExpressionMachine, O: AnswerWriter + Drop>(
     text: &[u8],
     holding: &mut Holding,
     scene: Scene<'_>,

@@ -26,7 +26,7 @@ use prompt_scenes::{Holding, Scene, selected_depth, trimmed};
 use prompt_texts::{Page, Spelled, tell_no_value, tell_unknown};
 
 /// What stands behind the first word of a command line and before its condition, if all of the line is held.
-fn written_in(text: &[u8]) -> Option<&[u8]>
+pub(crate) fn written_in(text: &[u8]) -> Option<&[u8]>
     ensures { bytes_option result ≡ breaking.written_in text.now }
 {
     if text.len() < HELD {
@@ -38,7 +38,7 @@ fn written_in(text: &[u8]) -> Option<&[u8]>
 }
 
 /// A text, if it has any byte.
-fn if_any(text: &[u8]) -> Option<&[u8]>
+pub(crate) fn if_any(text: &[u8]) -> Option<&[u8]>
     ensures { bytes_option result ≡ breaking.if_any text.now }
 {
     match text {

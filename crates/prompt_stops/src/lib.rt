@@ -8,6 +8,7 @@ mod lists_told;
 mod numbers;
 mod taking;
 mod watches;
+mod writes;
 
 pub use breaking::{
     break_temporarily, change_condition, clear, delete, ignore, make_break, make_watch,

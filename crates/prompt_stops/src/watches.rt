@@ -1,5 +1,5 @@
-//! What is told of watches of what frames show.
-use conditional_stops::{CountedStop, FrameWatch, MoveEnd, Moved, Reason, Watch};
+//! What is told of watches of what frames show, and of what sets a variable.
+use conditional_stops::{CountedStop, FrameWatch, MoveEnd, Moved, Reason, Watch, WriteWatch};
 use debug_commands::Target;
 use debug_session::Session;
 use debug_traits::{AnswerWriter, FramedMachine, RecordedMachine};
@@ -20,7 +20,11 @@ pub(crate) fn tell_made<O: AnswerWriter + Drop>(
         if Some(watch.number()) == number {
             page.put(b"watch ");
             put_watch(watch, b": ", page);
-            page.put(b", while this frame is there\n");
+            page.put(if watch.depth() == 0 {
+                b"\n"
+            } else {
+                b", while this frame is there\n"
+            });
         }
     }
 }
@@ -38,8 +42,10 @@ pub(crate) fn tell_deleted<O: AnswerWriter + Drop>(number: Option<u32>, page: &m
 pub fn list_frames<O: AnswerWriter + Drop>(holding: &Holding, page: &mut Page<O>) {
     for watch in holding.frames.as_slice() {
         put_watch(watch, b"  watch, ", page);
-        page.put(b", of the frame at depth ");
-        page.put_number(watch.depth() as i128);
+        if watch.depth() > 0 {
+            page.put(b", of the frame at depth ");
+            page.put_number(watch.depth() as i128);
+        }
         page.put(b"\n");
         tell_said(watch.number(), holding, page);
     }
@@ -102,7 +108,20 @@ fn show_seen<M: ExpressionMachine, O: AnswerWriter + Drop>(
             }
         }
         Watch::Expression(watch) => show_value(watch, scene, machine, page),
+        Watch::Writes(watch) => show_set(watch, top, scene, machine, page),
     }
+}
+
+/// Shows a variable that was set.
+fn show_set<M: FramedMachine, O: AnswerWriter + Drop>(
+    watch: &WriteWatch,
+    top: usize,
+    scene: Scene<'_>,
+    machine: &M,
+    page: &mut Page<O>,
+) {
+    let depth = if watch.depth == 0 { top } else { watch.depth };
+    show_named(watch.name.as_slice(), None, depth, scene, machine, page);
 }
 
 /// Shows the value of an expression that is watched, or its fault.
@@ -134,18 +153,22 @@ fn show_watch<M: FramedMachine, O: AnswerWriter + Drop>(
     page: &mut Page<O>,
 ) {
     let name = watch.name.as_slice();
-    if let Some(shown) = machine.find_at(watch.depth, name) {
-        let target = Target { name, at: watch.at };
+    show_named(name, watch.at, watch.depth, scene, machine, page);
+}
+
+/// Shows what a name stands for in the frame at a depth, or a part of it.
+fn show_named<M: FramedMachine, O: AnswerWriter + Drop>(
+    name: &[u8],
+    at: Option<u32>,
+    depth: usize,
+    scene: Scene<'_>,
+    machine: &M,
+    page: &mut Page<O>,
+) {
+    if let Some(shown) = machine.find_at(depth, name) {
+        let target = Target { name, at };
         page.put(b"  ");
-        show_target(
-            target,
-            Digits::Decimal,
-            shown,
-            watch.depth,
-            scene,
-            machine,
-            page,
-        );
+        show_target(target, Digits::Decimal, shown, depth, scene, machine, page);
     }
 }
 
@@ -181,6 +204,10 @@ fn put_watch<O: AnswerWriter + Drop>(watch: &Watch, between: &[u8], page: &mut P
     match watch {
         Watch::Variable(watch) => put_part(watch, page),
         Watch::Expression(watch) => page.put_masked(watch.text.as_slice()),
+        Watch::Writes(watch) => {
+            page.put(b"what sets ");
+            page.put_masked(watch.name.as_slice());
+        }
     }
 }
 
