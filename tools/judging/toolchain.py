@@ -8,6 +8,7 @@ import os
 import shutil
 import subprocess
 import sys
+import threading
 
 import older
 
@@ -83,6 +84,28 @@ def digests_of(crates):
     rt.kit_sum.cache_clear()
     seen = {}
     return {it.name: rt.stamp_of(it, seen) for it in crates}
+
+
+# A command that can write to no file. (To a pipe it can: that is where a check says what it finds.)
+WRITES_NO_FILE = ["sh", "-c", 'trap "" XFSZ; ulimit -f 0; exec "$@"', "sh"]
+guarded, check_of_edit, here = rtlib.guarded, rt.checked, threading.local()
+rtlib.guarded = lambda: [*guarded(), *(WRITES_NO_FILE if getattr(here, "writes_no_file", False) else [])]
+
+
+def checked(crate, texts, flags, kept):
+    """The toolchain's check of a crate with other texts, which saves nothing where it has kept work to read.
+
+    Where a check saves its work and leaves goals open, it then loads all of that work anew, to write out how one would begin their proofs:
+    often longer than it took to judge them. Of an edit nobody wants that, and its work is of use to no other.
+    """
+    here.writes_no_file = bool(kept and os.listdir(kept))
+    try:
+        return check_of_edit(crate, texts, flags, kept)
+    finally:
+        here.writes_no_file = False
+
+
+rt.checked = checked
 
 
 @contextlib.contextmanager
