@@ -18,7 +18,7 @@ use Rattle.machine_states.specs.Declared.{AreDeclared, IsThere, NamesDeclared, d
 use Rattle.machine_states.specs.Effects.{region_of}
 use Rattle.machine_states.specs.Regions.{Depth, Regions}
 use Rattle.machine_states.specs.Shows.{Shows}
-use Rattle.machine_states.specs.Variables.{IsScalar, Variables}
+use Rattle.machine_states.specs.Variables.{IsArray, IsScalar, Variables}
 use Rattle.machine_states.specs.WellScoped.{IsWellScopedExpr}
 use Rattle.machine_states.proofs.ArrayViews.{view_same}
 use Rattle.machine_states.proofs.ChangedRegions.{lengths_kept}
@@ -95,6 +95,12 @@ module _ {T : Type 0} (history : T → History) (width : ℕ) (compiled : Compil
       below_most active.frame (length (masked_up_to deep masked).state.frames)
       (same_first (suc active.frame) (length (masked_up_to deep masked).state.frames) [] [] (sym is_active.next.depth ∙ left_shows.depth)) left_shows.few
 
+  -- the part that an array's name stands for in the frame
+  pub array_view : (a : VarId) → IsArray (variables_of compiled) active.function a → view_of (masked_up_to deep masked).state a ≡ view_at (regions_in history width words) active.frame a
+  array_view a array =
+      array_shown (program_of compiled) variables width left (masked_up_to deep masked) left_shows active.frame active.level active.function f active.step (slice_get (points_in f) active.step) is_active.next a array
+      ∙ same_part deep active.frame regions a
+
   -- a state with the words of the masked one
   module _ (state : State) (words_are : untasked state ≡ (masked_up_to deep masked).state) where
     words_same : (id : VarId) → words_in state id ≡ words_in (masked_up_to deep masked).state id
@@ -122,7 +128,5 @@ module _ {T : Type 0} (history : T → History) (width : ℕ) (compiled : Compil
         alike
         (λ v. ap (λ st. words_of st.memory v) words_are ∙ shown.shows.memory v ∙ sym (region_state_memory history width words active.frame v))
         (λ a array.
-        views_same a
-        ∙ array_shown (program_of compiled) variables width left (masked_up_to deep masked) left_shows active.frame active.level active.function f active.step (slice_get (points_in f) active.step) is_active.next a array
-        ∙ same_part deep active.frame regions a ∙ sym (region_state_views history width words active.frame a))
+        views_same a ∙ array_view a array ∙ sym (region_state_views history width words active.frame a))
         e well_scoped declared lanes long

@@ -1,4 +1,5 @@
 pub mod Agreeing
+mod AnyLanes
 pub mod Beginnings
 mod BegunAgain
 pub mod EntryArrays
@@ -12,6 +13,7 @@ pub mod HeadSizes
 pub mod Keeping
 mod Lasting
 pub mod Limiting
+mod NamedViews
 pub mod Placing
 pub mod PokedLengths
 pub mod Poking
@@ -19,4 +21,6 @@ pub mod Positions
 pub mod Recording
 pub mod Seeing
 pub mod Stepping
+mod StoringNow
+mod StoringPoints
 mod TopDepth

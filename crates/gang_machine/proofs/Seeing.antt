@@ -90,7 +90,7 @@ module _ (p : t.Program) (variables : Variables) (numbered : IsNumberedProgram p
 
 module _ (w : ℕ) (compiled : CompiledProgram) (runnable : IsRunnable compiled.program) (masked : Masked) where
   -- a name in scope stands for a variable of its function
-  in_scope : (function number : ℕ) (f : Function) (standing : Standing) → StandsAt compiled function number f standing → (k : ℕ) (v : Variable) → slice_get standing.scope k ≡ Some v
+  pub in_scope : (function number : ℕ) (f : Function) (standing : Standing) → StandsAt compiled function number f standing → (k : ℕ) (v : Variable) → slice_get standing.scope k ≡ Some v
       → IsWellScopedName (variables_of compiled) function v
   in_scope function number f standing stands k v e =
       let scopes : All (IsWellScopedName (variables_of compiled) function) standing.scope = (runnable.well_scoped.functions function f stands.is_function).scopes number standing stands.stands in

@@ -3,3 +3,4 @@ pub mod Machines
 pub mod Nexts
 pub mod Openings
 pub mod Standings
+pub mod Stored

@@ -17,7 +17,8 @@ ghost use Rattle.frame_expressions.specs.Lanes.{IsValue, lanes_at};
 ghost use Rattle.gang_machine.specs.Standings.{Stands};
 
 use crate::machine::Machine;
-use debug_traits::Fault;
+use crate::stores::{named_view, next_store};
+use debug_traits::{Fault, Shown};
 use expression_instructions::Instruction;
 use expression_runs::Stop;
 use frame_expressions::{ExpressionMachine, LaneWords};
@@ -89,6 +90,14 @@ impl<const W: usize, T: Timeline + Drop> ExpressionMachine for Machine<W, T> {
                 value_in::<W, T>(&self.words, active.frame, made.and(lanes), code)
             }
             None => Ok(no_words()),
+        }
+    }
+
+    fn stores_to(&self, depth: usize, array: Shown, first: usize, count: usize) -> bool {
+        let named = named_view::<W, T>(&self.compiled, &self.words, depth, array.id);
+        match next_store::<W, T>(&self.compiled, &self.words) {
+            Some(stored) => stored.meets(named, first, count),
+            None => false,
         }
     }
 }

@@ -7,6 +7,7 @@ mod frames;
 mod machine;
 mod mover;
 mod opening;
+mod stores;
 
 pub use machine::Machine;
 pub use opening::{PreparedProgram, open};
