@@ -20,4 +20,4 @@ pub use sights::{FrameWatch, LONGEST_NAME, Sight, differ, sight, words_of};
 pub use table::{ConditionRefusal, Conditions, LONGEST_CONDITION};
 pub use walking::walk_on;
 pub use watches::Watch;
-pub use writes::WriteWatch;
+pub use writes::{SetPart, SetPlace, WriteWatch};
