@@ -1,5 +1,6 @@
 """Watches of what sets a variable at the prompt, `watch -w`, at 8 and 16 lanes, on and back: of a function and of the file, by a statement, by
-a call that returns, by an assignment that changes nothing, by lanes of a `foreach`; with a condition; and what is not watched so.
+a call that returns, by an assignment that changes nothing, by lanes of a `foreach`; of an array and an element, by whatever name and index; with
+a condition; and what is not watched so.
 
 What is set where is worked out here by hand.
 """
@@ -31,6 +32,46 @@ export void go() {
     total = 1;
 }
 """
+ARRAYS = b"""uniform int table[6];
+uniform int other[6];
+void fill(uniform int part[], uniform int by) {
+    part[1] = by;
+    part[0] = 5;
+}
+export void go(uniform int out[], uniform int from) {
+    uniform int i = 2;
+    table[i] = 0;
+    i = 4;
+    table[programIndex % 2 + i] = 9;
+    fill(&table[1], 7);
+    fill(&out[from], 8);
+    other[2] = 3;
+    table[2] += 0;
+    if (programIndex < 2) {
+        packed_store_active(&table[2], programIndex + 8);
+    }
+    if (programIndex == 1) {
+        table[programIndex + 1] = 1;
+    }
+    i = table[2];
+}
+"""
+GIVEN_NAME = "written.input"
+GIVEN = b"out = 1 2 3 4\nfrom = 2\n"
+# Where the element 2 of `table` is set: the line, whether in the callee, and what it is then.
+ELEMENT = ((9, 1, 0), (4, 2, 7), (15, 1, 7), (17, 1, 8), (20, 1, 1))
+# The same of any element of `table`, with all of them.
+TABLE = (
+    (9, 1, "0 0 0 0 0 0"),
+    (11, 1, "0 0 0 0 9 9"),
+    (4, 2, "0 0 7 0 9 9"),
+    (5, 2, "0 5 7 0 9 9"),
+    (15, 1, "0 5 7 0 9 9"),
+    (17, 1, "0 5 8 9 9 9"),
+    (20, 1, "0 5 1 9 9 9"),
+)
+# Where the element 3 of `out` is set, which the callee has as the element 1 of its parameter.
+OUT = ((4, 2, 8),)
 # What `x` shows behind each statement that sets it from the loop on.
 BEHIND = (5, 10, 5, 10, 10, 10)
 
@@ -78,9 +119,59 @@ def of_conditions(width):
     return "with a condition", lines, wanted
 
 
+def there_and_back(name, places, shown, told):
+    """A watch of what sets something: each stop on, by its line behind the setting one, and going back the setting line itself."""
+    lines, wanted = ["watch -w " + name, "info watchpoints"], [("watch 1: what sets " + name,), ("1  watch, what sets " + name + told,)]
+    for line, depth, word in places:
+        lines = [*lines, "continue", "backtrace"]
+        wanted = [*wanted, ("watch 1:", f"  {shown} = {word}\n"), ("fill", "go") if depth == 2 else ("!fill", "go")]
+    lines, wanted = [*lines, "continue"], [*wanted, ("the program has ended",)]
+    for line, depth, word in reversed(places):
+        lines, wanted = [*lines, "reverse-continue"], [*wanted, ("watch 1:", f":{line}:")]
+    return [*lines, "reverse-continue"], [*wanted, ("the history goes back no further", ":8:")]
+
+
+def of_elements(width):
+    """A step that stores to an element stops, by whatever name and index, whether the element changes or not; one that stores beside it does not."""
+    lines, wanted = there_and_back("table[2]", ELEMENT, "table[2]", "\n")
+    return "an element", lines, wanted, ARRAYS
+
+
+def of_arrays(width):
+    """The same of all elements of an array."""
+    lines, wanted = there_and_back("table", TABLE, "table", "\n")
+    return "an array", lines, wanted, ARRAYS
+
+
+def of_given_arrays(width):
+    """An element of an array that the entry is given, which a callee has under another name and number."""
+    lines, wanted = there_and_back("out[3]", OUT, "out[3]", ", of the frame at depth 1\n")
+    return "an element of a parameter", lines, wanted, ARRAYS
+
+
+def of_callees(width):
+    """An element of a callee's parameter, while its frame is there: the second call has another part."""
+    lines = ["break 5", "run", "watch -w part[0]", "continue", "continue", "watch -w part[1]", "delete 1", "continue", "watch -w table[1] if table[1] > 5", "watch -w table[0]", "reverse-continue", "print table[1]"]
+    wanted = [
+        ("breakpoint 1 at line 5",),
+        ("breakpoint 1:", ":5:"),
+        ("watch 2: what sets part[0], while this frame is there\n",),
+        ("watch 2:", "  part[0] = 5\n"),
+        ("watch 2 of what sets part[0] ends: its frame has been left\n",),
+        ("`watch -w NAME` stops",),
+        ("deleted 1",),
+        ("the program has ended",),
+        ("watch 3: what sets table[1]", "3 stops only if table[1] > 5"),
+        ("watch 4: what sets table[0]\n",),
+        ("the history goes back no further", ":8:"),
+        ("table[1] = 0\n",),
+    ]
+    return "an element of a callee's parameter", lines, wanted, ARRAYS
+
+
 def of_others(width):
-    """A watch of the value stops at none of what changes nothing; arrays and other names are not watched so, and `-w` alone is an expression."""
-    lines = ["break 10", "run", "delete 1", "watch x", "continue", "delete 2", "watch -w table", "watch -w nobody", "watch -w x[0]", "watch -w", "watch -w x", *["watch -w i"] * 16]
+    """A watch of the value stops at none of what changes nothing; lanes, elements that are not there and other names are not watched so, and `-w` alone is an expression."""
+    lines = ["break 10", "run", "delete 1", "watch x", "continue", "delete 2", "watch -w table[4]", "watch -w nobody", "watch -w x[0]", "watch -w", "watch -w x", *["watch -w i"] * 16]
     wanted = [
         ("breakpoint 1 at line 10",),
         ("breakpoint 1:",),
@@ -102,8 +193,11 @@ def of_others(width):
 def runs():
     found = []
     for width in WIDTHS:
-        for part in (of_locals, of_the_file, of_conditions, of_others):
-            name, lines, wanted = part(width)
+        for part in (of_locals, of_the_file, of_conditions, of_others, of_elements, of_arrays, of_given_arrays, of_callees):
+            name, lines, wanted, *other = part(width)
             typed = f"{MARK}\n" + "".join(f"{line}\n{MARK}\n" for line in lines)
-            found.append(Run(f"watches of what sets {name}, {width} lanes", typed.encode(), ["debug", NAME, "--width", str(width)], judged(wanted), b"", data={NAME: SOURCE}))
+            words, data = ["debug", NAME, "--width", str(width)], {NAME: other[0] if other else SOURCE}
+            if other:
+                words, data = [*words, "--input", GIVEN_NAME], {**data, GIVEN_NAME: GIVEN}
+            found.append(Run(f"watches of what sets {name}, {width} lanes", typed.encode(), words, judged(wanted), b"", data=data))
     return found

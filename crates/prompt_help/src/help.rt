@@ -130,7 +130,7 @@ const OTHERS: [Topic; 22] = [
     Topic {
         names: &[b"watch"],
         usage: b"watch [-w] T [if E]",
-        text: b"stops where a variable, a lane or an element of it, or the value of an expression has changed, also going back; one of a function and an expression while its frame is there. With `-w` it stops behind each statement that sets a variable, whether that changes it or not.",
+        text: b"stops where a variable, a lane or an element of it, or the value of an expression has changed, also going back; one of a function and an expression while its frame is there. With `-w` it stops behind each statement that sets a variable, an array or an element, whether that changes it or not.",
     },
     Topic {
         names: &[b"condition"],

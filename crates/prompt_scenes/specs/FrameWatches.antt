@@ -12,6 +12,9 @@ use Rattle.expression_watches.specs.declared.sights.ExpressionWatch.{ExpressionW
 use Rattle.conditional_stops.specs.declared.sights.FrameWatch.{FrameWatch}
 use Rattle.conditional_stops.specs.declared.watches.Watch.{Watch}
 use Rattle.conditional_stops.specs.declared.watches.Watch.TheVariants as watch
+use Rattle.conditional_stops.specs.declared.writes.SetPart.{SetPart}
+use Rattle.conditional_stops.specs.declared.writes.SetPart.TheVariants as part
+use Rattle.conditional_stops.specs.declared.writes.SetPlace.{SetPlace}
 use Rattle.conditional_stops.specs.declared.writes.WriteWatch.{WriteWatch}
 use Rattle.conditional_stops.specs.Tables.{Table, without}
 use Rattle.conditional_stops.specs.Watches.{watch_depth, watch_number}
@@ -41,14 +44,23 @@ if_watched state target (Some v) = if can_watch v.id v.is_array v.rate (length (
 abbrev pub local_named : Setting → Debugger → (depth : ℕ) → Target → Option VarId
 local_named s d deep target = if_watched (state_at deep (now s d)) target (found_at s.program deep (now s d) target.name)
 
--- the scalar that a name stands for, whose name is not too long
-abbrev pub if_scalar : (name : List ℕ) → Option Variable → Option VarId
-if_scalar name None = None
-if_scalar name (Some v) = if not v.is_array && nat_le (length name) 256 then Some v.id else None
+-- what is meant of a variable, of which so many words are shown: all of it, or an element that is there; no lane of a scalar
+abbrev pub part_named : (is_array : Bool) → (words : ℕ) → (at : Option ℕ) → Option SetPart
+part_named is_array words None = if is_array then Some part.Array else Some part.Scalar
+part_named is_array words (Some k) = if is_array && nat_lt k words then Some (part.Element k) else None
 
--- the scalar of the frame at a depth, or of the file, that a name stands for there
-abbrev pub scalar_named : Setting → Debugger → (depth : ℕ) → (name : List ℕ) → Option VarId
-scalar_named s d deep name = if_scalar name (found_at s.program deep (now s d) name)
+-- a place that steps set, of a variable whose name is not too long
+abbrev pub place_of : VarId → (name : List ℕ) → Option SetPart → Option SetPlace
+place_of v name None = None
+place_of v name (Some p) = if nat_le (length name) 256 then Some (record { id = v; part = p }) else None
+
+abbrev pub place_found : State → Target → Option Variable → Option SetPlace
+place_found state target None = None
+place_found state target (Some v) = place_of v.id target.name (part_named v.is_array (length (shown_words state v)) target.at)
+
+-- what a target means, in the frame at a depth or of the file, to watch what sets it
+abbrev pub place_named : Setting → Debugger → (depth : ℕ) → Target → Option SetPlace
+place_named s d deep target = place_found (state_at deep (now s d)) target (found_at s.program deep (now s d) target.name)
 
 -- the depth of the frame whose variable it is, 0 for one of the file
 abbrev pub own_depth : (depth : ℕ) → VarId → ℕ
@@ -76,15 +88,15 @@ abbrev pub with_expression : Option ExpressionWatch → Held → Held
 with_expression None h = h
 with_expression (Some w) h = if nat_lt (length h.frames) 16 then record h { frames = h.frames ++ watch.Expression w ∷ [] } else h
 
--- a watch of what sets a variable that is in sight in the frame at a depth
-abbrev pub write_watch : ℕ → (name : List ℕ) → (depth : ℕ) → VarId → WriteWatch
-write_watch number name deep v = record { number = number; depth = own_depth deep v; id = v; name = record { items = name } }
+-- a watch of what sets a variable that is in sight in the frame at a depth, or a part of it
+abbrev pub write_watch : ℕ → (name : List ℕ) → (depth : ℕ) → SetPlace → WriteWatch
+write_watch number name deep place = record { number = number; depth = own_depth deep place.id; place = place; name = record { items = name } }
 
--- what sets a variable is watched from now on by a number that was found, where fewer than 16 watches are there
-abbrev pub with_writes : Option ℕ → (name : List ℕ) → (depth : ℕ) → VarId → Held → Held
-with_writes None name deep v h = h
-with_writes (Some number) name deep v h =
-    if nat_lt (length h.frames) 16 && nat_le (length name) 256 then record h { frames = h.frames ++ watch.Writes (write_watch number name deep v) ∷ [] } else h
+-- what sets it is watched from now on by a number that was found, where fewer than 16 watches are there
+abbrev pub with_writes : Option ℕ → (name : List ℕ) → (depth : ℕ) → SetPlace → Held → Held
+with_writes None name deep place h = h
+with_writes (Some number) name deep place h =
+    if nat_lt (length h.frames) 16 && nat_le (length name) 256 then record h { frames = h.frames ++ watch.Writes (write_watch number name deep place) ∷ [] } else h
 
 -- what was deleted is watched no more: one watch, or all
 abbrev pub without_frames : Option (Option ℕ) → Held → Held

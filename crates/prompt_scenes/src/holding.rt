@@ -9,7 +9,7 @@ ghost use Rattle.prompt_scenes.specs.FrameWatches as frames;
 
 use crate::watching::{forget_deeper, own_depth};
 use arrayvec::ArrayVec;
-use conditional_stops::{Conditions, FrameWatch, Watch, WriteWatch};
+use conditional_stops::{Conditions, FrameWatch, SetPlace, Watch, WriteWatch};
 use debug_commands::Target;
 use expression_watches::ExpressionWatch;
 use gang_types::VarId;
@@ -392,9 +392,10 @@ impl Holding {
         }
     }
 
-    /// Watches what sets a variable that is in sight in the frame at a depth, by a number, if one was found, where there is room.
-    pub fn add_writes(&mut self, number: Option<u32>, name: &[u8], depth: usize, id: VarId)
-        ensures { held self.new ≡ frames.with_writes number name.now depth id (held self.old) }
+    /// Watches what sets a variable that is in sight in the frame at a depth, or a part of it, by a number, if one was found, where there is
+    /// room.
+    pub fn add_writes(&mut self, number: Option<u32>, name: &[u8], depth: usize, place: SetPlace)
+        ensures { held self.new ≡ frames.with_writes number name.now depth place (held self.old) }
     {
         let Some(number) = number else {
             return;
@@ -405,8 +406,8 @@ impl Holding {
         if !self.frames.is_full() {
             self.frames.push(Watch::Writes(WriteWatch {
                 number,
-                depth: own_depth(depth, id),
-                id,
+                depth: own_depth(depth, place.id),
+                place,
                 name,
             }));
         }

@@ -15,4 +15,4 @@ pub use readings::{
     step_named, stopped_number, trimmed, watch_number, watch_of,
 };
 pub use scene::{ListedLine, Scene};
-pub use watching::{known, local_named, scalar_named};
+pub use watching::{known, local_named, place_named};

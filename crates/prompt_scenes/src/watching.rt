@@ -6,7 +6,7 @@ ghost use Rattle.conditional_stops.specs.Views.{table_of};
 ghost use Rattle.debug_commands.specs.Views.{option_view, target_view};
 ghost use Rattle.prompt_scenes.specs.FrameWatches as frames;
 
-use conditional_stops::{Conditions, LONGEST_NAME, Watch};
+use conditional_stops::{Conditions, LONGEST_NAME, SetPart, SetPlace, Watch};
 use debug_commands::{Command, Target, read_command};
 use debug_traits::{FramedMachine, Shown};
 use gang_types::{Rate, VarId};
@@ -49,15 +49,34 @@ fn is_part(shown: Shown, at: Option<u32>) -> bool
     }
 }
 
-/// The scalar of the frame at a depth, or of the file, that a name stands for there.
-pub fn scalar_named<M: FramedMachine>(name: &[u8], depth: usize, machine: &M) -> Option<VarId>
-    ensures { (s : Setting) (d : Debugger) → M.stands machine.now s d → result ≡ frames.scalar_named s d depth name.now }
+/// What a target means, in the frame at a depth or of the file, to watch what sets it: a scalar, an array or an element.
+pub fn place_named<M: FramedMachine>(
+    target: Target<'_>,
+    depth: usize,
+    machine: &M,
+) -> Option<SetPlace>
+    ensures { (s : Setting) (d : Debugger) → M.stands machine.now s d → result ≡ frames.place_named s d depth (target_view target.entry) }
 {
-    let shown = machine.find_at(depth, name)?;
-    if !shown.is_array && name.len() <= LONGEST_NAME {
-        Some(shown.id)
+    let shown = machine.find_at(depth, target.name)?;
+    let part = part_named(shown, target.at)?;
+    if target.name.len() <= LONGEST_NAME {
+        Some(SetPlace { id: shown.id, part })
     } else {
         None
+    }
+}
+
+/// What of a variable is meant: all, or an element that is there. A lane of a scalar is none of it.
+fn part_named(shown: Shown, at: Option<u32>) -> Option<SetPart>
+    ensures { result ≡ frames.part_named shown.is_array shown.count at }
+{
+    match at {
+        None if shown.is_array => Some(SetPart::Array),
+        None => Some(SetPart::Scalar),
+        Some(index) if shown.is_array && (index as usize) < shown.count => {
+            Some(SetPart::Element(index))
+        }
+        Some(_) => None,
     }
 }
 

@@ -3,8 +3,10 @@ use Rattle.std.specs.Prelude.{◌≡◌, ℕ, ◌&&◌, Bool, bytes_eq, codes, f
 use Rattle.gang_types.specs.declared.places.Spot.{Spot}
 use Rattle.gang_types.specs.declared.places.VarId.{VarId}
 use Rattle.gang_model.specs.Debugger.Debugger.{Command, Debugger, DoBreak, DoDelete, DoWatch, Setting, Target, do_command, now}
+use Rattle.gang_model.specs.Texts.CommandText.{command_of}
 use Rattle.gang_model.specs.Types.Tree.{Program}
 use Rattle.debug_traits.specs.Frames.{spot_at}
+use Rattle.conditional_stops.specs.declared.writes.SetPlace.{SetPlace}
 use Rattle.debug_session.specs.declared.session.Session.{Session}
 use Rattle.command_lists.specs.Lists.{HasDone}
 use Rattle.expression_watches.specs.declared.sights.ExpressionWatch.{ExpressionWatch}
@@ -12,11 +14,12 @@ use Rattle.expression_watches.specs.Meanings.{is_meant}
 use Rattle.expression_watches.specs.Sights as expression
 use Rattle.prompt_lines.specs.Conditions.{before_if, behind_first, first_word}
 use Rattle.prompt_lines.specs.Numbers.{are_numbers}
+use Rattle.prompt_lines.specs.Words.{printing_text}
 use Rattle.prompt_scenes.specs.Conditions.{forgotten_by, made_so}
-use Rattle.prompt_scenes.specs.FrameWatches.{is_frame, local_named, scalar_named, with_expression, with_frame, with_writes, without_frames}
+use Rattle.prompt_scenes.specs.FrameWatches.{is_frame, local_named, place_named, with_expression, with_frame, with_writes, without_frames}
 use Rattle.prompt_scenes.specs.Holding.{Held}
 use Rattle.prompt_scenes.specs.SelectedFrame.{depth_of}
-use Rattle.prompt_scenes.specs.Readings.{made_number, trimmed, watch_number}
+use Rattle.prompt_scenes.specs.Readings.{made_number, print_of, trimmed, watch_number}
 use Rattle.prompt_scenes.specs.Changes.{with_temporary}
 use Rattle.prompt_stops.specs.Numbers.{after_deleted, deleted_each, disabled_each, enabled_each, numbers_named}
 
@@ -82,7 +85,7 @@ if_any (byte ∷ bytes) = Some (byte ∷ bytes)
 abbrev pub written_in : (text : List ℕ) → Option (List ℕ)
 written_in text = if nat_lt (length text) 257 then if_any (trimmed (behind_first (before_if text))) else None
 
--- the name behind `-w`
+-- what stands behind `-w`
 abbrev pub name_behind : (text : List ℕ) → Option (List ℕ)
 name_behind text = if bytes_eq (first_word text) (codes "-w") then if_any (trimmed (behind_first text)) else None
 
@@ -90,18 +93,27 @@ abbrev pub name_in : Option (List ℕ) → Option (List ℕ)
 name_in None = None
 name_in (Some text) = name_behind text
 
--- the name of the variable that a line names to watch what sets it
+-- the text of the variable or the element that a line names to watch what sets it
 abbrev pub write_name : (text : List ℕ) → Option (List ℕ)
 write_name text = name_in (written_in text)
 
--- what sets a scalar is watched by a number that is taken, where there is room
-abbrev pub writes_by : Setting → Debugger → Held → (scalar : Option VarId) → List Command
-writes_by s d h None = []
-writes_by s d h (Some v) = if nat_lt (length h.frames) 16 then numbered s d else []
+-- the target that such a text spells, as behind `print`
+abbrev pub place_target : (name : List ℕ) → Option Target
+place_target name = print_of (command_of (printing_text name))
 
--- the same of a name in the frame that is selected
+-- what sets a place is watched by a number that is taken, where there is room
+abbrev pub writes_by : Setting → Debugger → Held → Option SetPlace → List Command
+writes_by s d h None = []
+writes_by s d h (Some place) = if nat_lt (length h.frames) 16 then numbered s d else []
+
+-- the same of a target in the frame that is selected
+abbrev pub writes_of : Setting → Debugger → Held → Option Target → List Command
+writes_of s d h None = []
+writes_of s d h (Some target) = writes_by s d h (place_named s d (depth_of s d h) target)
+
+-- the same of a text
 abbrev pub writes_watched : Setting → Debugger → Held → (name : List ℕ) → List Command
-writes_watched s d h name = writes_by s d h (scalar_named s d (depth_of s d h) name)
+writes_watched s d h name = writes_of s d h (place_target name)
 
 -- whether a text means an expression at a step, if there is one
 abbrev pub means_at : Program → (text : List ℕ) → Option Spot → Bool
@@ -153,15 +165,20 @@ abbrev pub after_watch : Setting → Debugger → Held → Option Target → (te
 after_watch s d h None text condition = text_watched_then s d h text condition
 after_watch s d h (Some target) text condition = watched_then s d h target (local_named s d (depth_of s d h) target) condition
 
--- what is held where what sets a scalar is watched, with its condition
-abbrev pub writes_then : Setting → Debugger → Held → (name : List ℕ) → (scalar : Option VarId) → (condition : Option (List ℕ)) → Held
+-- what is held where what sets a place is watched, with its condition
+abbrev pub writes_then : Setting → Debugger → Held → (name : List ℕ) → Option SetPlace → (condition : Option (List ℕ)) → Held
 writes_then s d h name None condition = h
-writes_then s d h name (Some v) condition =
-    if nat_lt (length h.frames) 16 then made_so (taken s d) condition (with_writes (taken s d) name (depth_of s d h) v h) else h
+writes_then s d h name (Some place) condition =
+    if nat_lt (length h.frames) 16 then made_so (taken s d) condition (with_writes (taken s d) name (depth_of s d h) place h) else h
 
--- the same of a name in the frame that is selected
+-- the same of a target in the frame that is selected
+abbrev pub writes_of_then : Setting → Debugger → Held → Option Target → (condition : Option (List ℕ)) → Held
+writes_of_then s d h None condition = h
+writes_of_then s d h (Some target) condition = writes_then s d h target.name (place_named s d (depth_of s d h) target) condition
+
+-- the same of a text
 abbrev pub writes_watched_then : Setting → Debugger → Held → (name : List ℕ) → (condition : Option (List ℕ)) → Held
-writes_watched_then s d h name condition = writes_then s d h name (scalar_named s d (depth_of s d h) name) condition
+writes_watched_then s d h name condition = writes_of_then s d h (place_target name) condition
 
 -- what a line that watches comes to: it is done as these say; or there was no memory to read the text, and nothing is done
 abbrev pub DoesWatch : {M : Type 0} → (M → Setting → Debugger → Type 0) → Setting → Debugger → Held → Option Target → (text condition : Option (List ℕ)) → (refused : Bool) → Session M → Held → Type 0

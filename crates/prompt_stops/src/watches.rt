@@ -1,5 +1,7 @@
 //! What is told of watches of what frames show, and of what sets a variable.
-use conditional_stops::{CountedStop, FrameWatch, MoveEnd, Moved, Reason, Watch, WriteWatch};
+use conditional_stops::{
+    CountedStop, FrameWatch, MoveEnd, Moved, Reason, SetPart, Watch, WriteWatch,
+};
 use debug_commands::Target;
 use debug_session::Session;
 use debug_traits::{AnswerWriter, FramedMachine, RecordedMachine};
@@ -112,7 +114,7 @@ fn show_seen<M: ExpressionMachine, O: AnswerWriter + Drop>(
     }
 }
 
-/// Shows a variable that was set.
+/// Shows a variable or an element that was set.
 fn show_set<M: FramedMachine, O: AnswerWriter + Drop>(
     watch: &WriteWatch,
     top: usize,
@@ -121,7 +123,16 @@ fn show_set<M: FramedMachine, O: AnswerWriter + Drop>(
     page: &mut Page<O>,
 ) {
     let depth = if watch.depth == 0 { top } else { watch.depth };
-    show_named(watch.name.as_slice(), None, depth, scene, machine, page);
+    let name = watch.name.as_slice();
+    show_named(name, element_of(watch), depth, scene, machine, page);
+}
+
+/// The element that is watched, where it is not all of a variable.
+fn element_of(watch: &WriteWatch) -> Option<u32> {
+    match watch.place.part {
+        SetPart::Element(index) => Some(index),
+        SetPart::Scalar | SetPart::Array => None,
+    }
 }
 
 /// Shows the value of an expression that is watched, or its fault.
@@ -202,19 +213,19 @@ fn put_watch<O: AnswerWriter + Drop>(watch: &Watch, between: &[u8], page: &mut P
     page.put_number(i128::from(watch.number()));
     page.put(between);
     match watch {
-        Watch::Variable(watch) => put_part(watch, page),
+        Watch::Variable(watch) => put_part(watch.name.as_slice(), watch.at, page),
         Watch::Expression(watch) => page.put_masked(watch.text.as_slice()),
         Watch::Writes(watch) => {
             page.put(b"what sets ");
-            page.put_masked(watch.name.as_slice());
+            put_part(watch.name.as_slice(), element_of(watch), page);
         }
     }
 }
 
 /// Writes a variable, or a lane or an element of it.
-fn put_part<O: AnswerWriter + Drop>(watch: &FrameWatch, page: &mut Page<O>) {
-    page.put_masked(watch.name.as_slice());
-    if let Some(index) = watch.at {
+fn put_part<O: AnswerWriter + Drop>(name: &[u8], at: Option<u32>, page: &mut Page<O>) {
+    page.put_masked(name);
+    if let Some(index) = at {
         page.put(b"[");
         page.put_number(i128::from(index));
         page.put(b"]");

@@ -1,32 +1,29 @@
 use Rattle.std.proofs.Common.{◌≡◌, None, Some, refl, sym, subst, ap, ◌∙◌}
+use Rattle.gang_model.specs.Texts.CommandText.{command_of}
 use Rattle.command_lists.specs.Lists.{HasDone}
 use Rattle.command_lists.proofs.DoneLists.{done_nothing}
-use Rattle.debug_session.specs.Sessions.{bare}
+use Rattle.debug_commands.specs.TargetViews.{target_option}
+use Rattle.debug_commands.specs.Views.{target_view}
 use Rattle.prompt_lines.specs.Readings.{bytes_option}
-use Rattle.prompt_scenes.specs.FrameWatches.{scalar_named}
 use Rattle.prompt_scenes.specs.Holding.{held}
-use Rattle.prompt_scenes.specs.SelectedFrame.{depth_of}
-use Rattle.prompt_stops.specs.Breaking.{writes_by, writes_then}
+use Rattle.prompt_scenes.specs.Readings.{print_of}
+use Rattle.prompt_stops.specs.Breaking.{place_target, writes_of, writes_of_then}
 use Rattle.prompt_stops.proofs.writes.watch_writes.Goals as goal
 
 pub returns-in-Some : goal.returns-in-Some
 returns-in-Some g c s d st =
     let stands = g.M.RecordedMachine.stands in
     let h = held c.args.holding.now in
-    let name = c.args.name.now in
-    let deep = c.selected_depth-depth.ensures s d st in
-    let there = subst (λ m. stands m s (bare d)) (sym c.machine.ensures) st.there in
-    let found : Some c.in-Some.id ≡ scalar_named s d (depth_of s d h) name = sym c.in-Some.is ∙ c.scalar_named.ensures s (bare d) there ∙ ap (λ n. scalar_named s d n name) deep in
-    subst (λ scalar. HasDone stands s (writes_by s d h scalar) d c.watch_scalar.new.session × (held c.watch_scalar.new.holding ≡ writes_then s d h name scalar (bytes_option c.args.condition)))
-    found (c.watch_scalar.ensures s d st deep)
+    let named : Some (target_view c.in-Some.target) ≡ place_target c.args.name.now =
+    sym (ap target_option c.in-Some.is) ∙ c.print_of.ensures ∙ ap (λ text. print_of (command_of text)) c.printing_line.ensures in
+    subst (λ target. HasDone stands s (writes_of s d h target) d c.watch_named.new.session × (held c.watch_named.new.holding ≡ writes_of_then s d h target (bytes_option c.args.condition)))
+    named (c.watch_named.ensures s d st)
 
 pub returns-in-None : goal.returns-in-None
 returns-in-None g c s d st =
     let stands = g.M.RecordedMachine.stands in
     let h = held c.args.holding.now in
-    let name = c.args.name.now in
-    let deep = c.selected_depth-depth.ensures s d st in
-    let there = subst (λ m. stands m s (bare d)) (sym c.machine.ensures) st.there in
-    let found : None ≡ scalar_named s d (depth_of s d h) name = sym c.in-None.is ∙ c.scalar_named.ensures s (bare d) there ∙ ap (λ n. scalar_named s d n name) deep in
-    subst (λ scalar. HasDone stands s (writes_by s d h scalar) d c.args.session.now × (h ≡ writes_then s d h name scalar (bytes_option c.args.condition)))
-    found (done_nothing stands s d c.args.session.now st, refl)
+    let named : None ≡ place_target c.args.name.now =
+    sym (ap target_option c.in-None.is) ∙ c.print_of.ensures ∙ ap (λ text. print_of (command_of text)) c.printing_line.ensures in
+    subst (λ target. HasDone stands s (writes_of s d h target) d c.args.session.now × (h ≡ writes_of_then s d h target (bytes_option c.args.condition)))
+    named (done_nothing stands s d c.args.session.now st, refl)
