@@ -148,8 +148,8 @@ def counts(client, examples):
             # The first time is each time.
             [number] = [it["id"] for it in ask(client, (X, {"hitCondition": "1"}))]
             hit(client, client.move("continue"), number, X, 44)
-            # An empty count and an empty message are none.
-            [number] = [it["id"] for it in ask(client, (X, {"hitCondition": "", "logMessage": ""}))]
+            # An empty condition, an empty count and an empty message are none.
+            [number] = [it["id"] for it in ask(client, (X, {"condition": "", "hitCondition": "", "logMessage": ""}))]
             hit(client, client.move("continue"), number, X, 45)
             client.again()
         client.end()

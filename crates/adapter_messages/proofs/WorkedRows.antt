@@ -105,6 +105,9 @@ no_condition = refl
 a_number_for_a_condition : breakpoint_in (with_condition (natural 1)) ≡ Err fault.NoCondition
 a_number_for_a_condition = refl
 
+an_empty_condition : breakpoint_in (with_condition (string [])) ≡ Ok (record { line = 7; condition = None; passes = 0; log = None })
+an_empty_condition = refl
+
 abbrev with_count : Data → Data
 with_count count = object (member (codes "hitCondition") count (member (codes "line") (natural 7) no_members))
 

@@ -176,9 +176,9 @@ abbrev pub asked_option : Result (Option (Bor Bytes)) BreakpointFault → Result
 asked_option (Ok text) = Ok (text_of text)
 asked_option (Err fault) = Err fault
 
--- a text that can be a condition has at most 256 bytes
+-- a text that can be a condition has at most 256 bytes; an empty one is none
 abbrev pub fitting : Bytes → Result (Option Bytes) BreakpointFault
-fitting text = if nat_lt 256 (length text) then Err fault.NoCondition else Ok (Some text)
+fitting text = if length text == 0 then Ok None else (if nat_lt 256 (length text) then Err fault.NoCondition else Ok (Some text))
 
 abbrev pub condition_by : (is_absent : Bool) → Option Bytes → Result (Option Bytes) BreakpointFault
 condition_by true text = Ok None

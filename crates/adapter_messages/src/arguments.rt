@@ -183,7 +183,7 @@ fn log_of(breakpoint: &Value) -> Result<Option<&str>, BreakpointFault>
     }
 }
 
-/// The condition of a breakpoint, if it has one.
+/// The condition of a breakpoint, if it has one; an empty one is none.
 fn condition_of(breakpoint: &Value) -> Result<Option<&str>, BreakpointFault>
     ensures { asked_option result ≡ condition_in (view breakpoint.now) }
 {
@@ -192,7 +192,8 @@ fn condition_of(breakpoint: &Value) -> Result<Option<&str>, BreakpointFault>
         return Ok(None);
     }
     match given.and_then(Value::as_str) {
-        Some(text) if text.len() <= LONGEST_CONDITION => Ok(Some(text)),
+        Some(condition) if condition.is_empty() => Ok(None),
+        Some(condition) if condition.len() <= LONGEST_CONDITION => Ok(Some(condition)),
         _ => Err(BreakpointFault::NoCondition),
     }
 }
