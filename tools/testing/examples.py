@@ -1,6 +1,7 @@
 """The programs of examples/: NAME.ispc with the commands NAME.commands, and NAME.args and NAME.input if there, writes NAME.transcript.
 
-README.md beside them lists them, and that of the repository shows one at the prompt. The kernels below them are another module's (kernels.py).
+README.md beside them lists them, and that of the repository shows one at the prompt. docs/HUNTS.md shows three programs with their sessions. The
+kernels below them are another module's (kernels.py).
 """
 
 import re
@@ -11,6 +12,9 @@ PAGE = "README.md"
 
 # What README.md shows at the prompt is this session, whose source is an example, from the first line that is typed on.
 SHOWN = "sessions/prompts/readme.prompt"
+# A page of programs, each with its session there: these sessions.
+HUNTS, HUNTED = "docs/HUNTS.md", "sessions/prompts/hunts.prompt"
+HUNT = re.compile(r"^`(\w+\.ispc)`:\n\n```c\n(.*?)^```\n\n```\n(.*?)^```$", re.M | re.S)
 NAMED, BLOCK = re.compile(r"`examples/(\w+)\.ispc`"), re.compile(r"^```\n(\(rinddecade\) .*?)^```$", re.M | re.S)
 
 
@@ -51,8 +55,8 @@ def check(root):
     for file in sorted((root / "examples").iterdir()):
         if file.is_file() and file.name != PAGE and file.stem not in names(root):
             results.append(Result(file.name, False, ["it belongs to no NAME.ispc"]))
-    why = not_as_stored(root)
-    return [*results, Result("the prompt in README.md", not why, why)]
+    why, of_hunts = not_as_stored(root), hunts_not_as_stored(root)
+    return [*results, Result("the prompt in README.md", not why, why), Result(f"the prompt in {HUNTS}", not of_hunts, of_hunts)]
 
 
 def not_as_stored(root):
@@ -67,6 +71,17 @@ def not_as_stored(root):
     stored = re.sub(r"^> ", "(rinddecade) ", typed, flags=re.M)
     why = [] if head.partition("\n")[2] == (root / f"examples/{name}.ispc").read_text(encoding="utf-8") else [f"{SHOWN} has another source"]
     return why + ([] if block[1] == stored else [f"{SHOWN} has it otherwise"])
+
+
+def hunts_not_as_stored(root):
+    """Which programs of the page are not those that are stored, with the same sessions and in the same order."""
+    page, stored = (root / HUNTS).read_text(encoding="utf-8"), (root / HUNTED).read_text(encoding="utf-8")
+    told = [source + re.sub(r"^\(rinddecade\) ", "> ", said, flags=re.M).replace(file, "FILE") for file, source, said in HUNT.findall(page)]
+    kept = []
+    for session in re.split(r"^=== .*\n", stored, flags=re.M)[1:]:
+        source, _, said = session.rstrip("\n").partition("%%\n")
+        kept.append(f"{source}{said[said.index(chr(10) + '> ') + 1 :]}\n")
+    return [] if told == kept else [f"{HUNTED} has them otherwise"]
 
 
 def runs(root):
