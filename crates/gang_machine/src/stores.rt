@@ -4,7 +4,7 @@ ghost use Rattle.std.specs.List.{list_any};
 ghost use Rattle.gang_types.specs.Masks.{IsGangWidth, lanes_of};
 ghost use Rattle.gang_model.specs.Types.Tree.{Expr, Variable};
 ghost use Rattle.gang_model.specs.Running.Lanes.{at, members};
-ghost use Rattle.gang_model.specs.Running.State.{same_id, view_of};
+ghost use Rattle.gang_model.specs.Running.State.{view_of};
 ghost use Rattle.gang_model.specs.Running.Step.{part};
 ghost use Rattle.gang_model.specs.Running.Value.{value};
 ghost use Rattle.debug_traits.specs.Frames.{state_at};
@@ -29,6 +29,7 @@ use machine_shown::step_at;
 use machine_words::{MachineWords, View, part_from};
 use short_expressions::value_of;
 use undo_log::Timeline;
+use variable_writes::is_same;
 
 /// What lanes are going to store to: each of them an element of a part of an array, by its index in that part.
 #[derive(Drop)]
@@ -47,17 +48,6 @@ impl<const W: usize> Stored<W> {
         let from = view.first as u128 + first as u128;
         is_same(self.view.array, view.array)
             && is_any_among::<W>(self.lanes, &self.indices, self.view.first, from, count)
-    }
-}
-
-/// Whether two variables are one.
-fn is_same(one: VarId, other: VarId) -> bool
-    ensures { result ≡ same_id one other }
-{
-    match (one, other) {
-        (VarId::File(a), VarId::File(b)) => a == b,
-        (VarId::Local(a), VarId::Local(b)) => a == b,
-        (VarId::File(_), VarId::Local(_)) | (VarId::Local(_), VarId::File(_)) => false,
     }
 }
 
