@@ -137,7 +137,7 @@ fn seek_change<M: ExpressionMachine, O: AnswerWriter + Drop>(
 }
 
 /// Tells where the way back to a change led: what the statement there changed, or what stopped the way before it.
-fn tell_sought<M: RecordedMachine, O: AnswerWriter + Drop>(
+fn tell_sought<M: FramedMachine, O: AnswerWriter + Drop>(
     answer: &Answer<'_>,
     number: u32,
     newer: &Watched<'_>,

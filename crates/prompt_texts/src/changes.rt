@@ -1,90 +1,42 @@
 //! Which variables a move changed.
 use crate::answers::put_target;
 use crate::forms::Digits;
-use crate::frames::lanes_at;
-use crate::items::put_item;
 use crate::moments::step_of;
+use crate::noted::{MOST, Noted, function_at};
 use crate::page::Page;
 use crate::places::put_place_alone;
 use crate::source::Source;
-use crate::told::{is_of_lanes, lane_item};
 use crate::values::put_word;
 use arrayvec::ArrayVec;
 use debug_commands::Target;
 use debug_session::Session;
-use debug_traits::{AnswerWriter, NamedVariable, RecordedMachine, Shown};
-use gang_types::{IntType, Mask, VarId};
+use debug_traits::{AnswerWriter, FramedMachine, RecordedMachine, Shown};
+use gang_types::IntType;
 
 /// The most lanes of a gang.
-const WIDEST: usize = 16;
-
-/// How many variables are noted at most, and how many of the file or of a function are looked at.
-const MOST: usize = 64;
+pub(crate) const WIDEST: usize = 16;
 
 /// The words of a scalar.
-type Words = ArrayVec<u64, WIDEST>;
+pub(crate) type Words = ArrayVec<u64, WIDEST>;
 
-/// How much of a function's name is noted.
-const NAME: usize = 256;
-
-/// What the scalars in sight showed before a move; of the top frame, whose variables they are, its depth, its function and the lanes that were
-/// active.
+/// What the scalars in sight showed before a move: those of the file, of the top frame, and of the frame that called it.
 #[derive(Drop)]
 pub struct Before {
     depth: usize,
-    function: ArrayVec<u8, NAME>,
-    lanes: Mask,
-    ids: ArrayVec<u64, MOST>,
-    words: ArrayVec<Words, MOST>,
+    file: Noted,
+    top: Noted,
+    caller: Noted,
 }
 
 impl Before {
-    /// Notes what the scalars in sight show: those of the file, and the parameters and locals of the top frame.
-    pub fn note<M: RecordedMachine>(machine: &M) -> Self {
-        let mut before = Before {
-            depth: depth(machine),
-            function: function(machine),
-            lanes: lanes_at(depth(machine), machine),
-            ids: ArrayVec::new(),
-            words: ArrayVec::new(),
-        };
-        for number in 0..MOST {
-            if let Some(named) = machine.file_variable(number) {
-                before.add(named.shown, machine);
-            }
-        }
-        before.add_parameters(machine);
-        before.add_locals(machine);
-        before
-    }
-
-    /// Notes what the parameters of the top frame show.
-    fn add_parameters<M: RecordedMachine>(&mut self, machine: &M) {
-        let mut place = 0;
-        for _ in 0..MOST {
-            if let Some(parameter) = machine.next_parameter(place) {
-                self.add(parameter.variable.shown, machine);
-                place = parameter.next;
-            }
-        }
-    }
-
-    /// Notes what the locals of the top frame show.
-    fn add_locals<M: RecordedMachine>(&mut self, machine: &M) {
-        let mut place = 0;
-        for _ in 0..MOST {
-            if let Some(local) = machine.next_local(place) {
-                self.add(local.variable.shown, machine);
-                place = local.next;
-            }
-        }
-    }
-
-    /// Notes a scalar, where there is room.
-    fn add<M: RecordedMachine>(&mut self, shown: Shown, machine: &M) {
-        if !shown.is_array && !self.ids.is_full() && !self.words.is_full() {
-            self.ids.push(key(shown.id));
-            self.words.push(words_of(shown, machine));
+    /// Notes what the scalars in sight show, and those that are in sight once the top frame is left.
+    pub fn note<M: FramedMachine>(machine: &M) -> Self {
+        let depth = depth(machine);
+        Before {
+            depth,
+            file: Noted::of_file(machine),
+            top: Noted::of_frame(depth, machine),
+            caller: Noted::of_frame(depth.saturating_sub(1), machine),
         }
     }
 
@@ -97,82 +49,31 @@ impl Before {
     ) {
         for number in 0..MOST {
             if let Some(named) = machine.file_variable(number) {
-                self.tell_change(named, machine, page);
+                self.file.tell_change(named, machine, page);
             }
         }
-        if self.is_of_top(machine) {
-            self.tell_parameters(machine, page);
-            self.tell_locals(machine, page);
+        if let Some(noted) = self.of_top(machine) {
+            noted.tell_parameters(machine, page);
+            noted.tell_locals(machine, page);
         }
     }
 
-    /// Whether a frame of the same function is at the top, at the same depth.
-    fn is_of_top<M: RecordedMachine>(&self, machine: &M) -> bool {
-        depth(machine) == self.depth && function(machine).as_slice() == self.function.as_slice()
-    }
-
-    /// Writes a line for each parameter that shows other words than before.
-    fn tell_parameters<M: RecordedMachine, O: AnswerWriter + Drop>(
-        &self,
-        machine: &M,
-        page: &mut Page<O>,
-    ) {
-        let mut place = 0;
-        for _ in 0..MOST {
-            if let Some(parameter) = machine.next_parameter(place) {
-                self.tell_change(parameter.variable, machine, page);
-                place = parameter.next;
-            }
+    /// What the frame showed that is at the top now, where one of the same function was there at its depth: it was the top one, or the top one
+    /// has been left.
+    fn of_top<M: RecordedMachine>(&self, machine: &M) -> Option<&Noted> {
+        let now = depth(machine);
+        let noted = if now == self.depth {
+            &self.top
+        } else if self.depth.checked_sub(1) == Some(now) {
+            &self.caller
+        } else {
+            return None;
+        };
+        if noted.function.as_slice() == function_at(now, machine).as_slice() {
+            Some(noted)
+        } else {
+            None
         }
-    }
-
-    /// Writes a line for each local that is new or shows other words than before.
-    fn tell_locals<M: RecordedMachine, O: AnswerWriter + Drop>(
-        &self,
-        machine: &M,
-        page: &mut Page<O>,
-    ) {
-        let mut place = 0;
-        for _ in 0..MOST {
-            if let Some(local) = machine.next_local(place) {
-                self.tell_change(local.variable, machine, page);
-                place = local.next;
-            }
-        }
-    }
-
-    /// Writes a line for a scalar that is new, or shows other words than before.
-    fn tell_change<M: RecordedMachine, O: AnswerWriter + Drop>(
-        &self,
-        named: NamedVariable<'_>,
-        machine: &M,
-        page: &mut Page<O>,
-    ) {
-        if named.shown.is_array {
-            return;
-        }
-        let now = words_of(named.shown, machine);
-        match self.noted(key(named.shown.id)) {
-            Some(old) if old == now.as_slice() => {}
-            Some(old) => {
-                put_name(named, page);
-                put_shown(named.shown, self.lanes, old, page);
-                page.put(b" ->");
-                put_now(named.shown, now.as_slice(), machine, page);
-            }
-            None if self.ids.is_full() => {}
-            None => {
-                put_name(named, page);
-                put_now(named.shown, now.as_slice(), machine, page);
-            }
-        }
-    }
-
-    /// The words that were noted of a variable.
-    fn noted(&self, key: u64) -> Option<&[u64]> {
-        let place = self.ids.as_slice().iter().position(|id| *id == key)?;
-        let words = self.words.as_slice().get(place)?;
-        Some(words.as_slice())
     }
 }
 
@@ -368,75 +269,27 @@ fn word_at<M: RecordedMachine>(shown: Shown, index: usize, machine: &M) -> Words
     words
 }
 
-/// Writes what a scalar shows now, and ends the line.
-fn put_now<M: RecordedMachine, O: AnswerWriter + Drop>(
-    shown: Shown,
+/// Writes a blank and the value of each word.
+pub(crate) fn put_all<O: AnswerWriter + Drop>(
+    value_type: IntType,
     words: &[u64],
-    machine: &M,
     page: &mut Page<O>,
 ) {
-    put_shown(shown, lanes_at(depth(machine), machine), words, page);
-    page.put(b"\n");
-}
-
-/// Writes a blank and the value of each word of a scalar, in brackets where it is of a lane that waits.
-fn put_shown<O: AnswerWriter + Drop>(shown: Shown, lanes: Mask, words: &[u64], page: &mut Page<O>) {
-    if !is_of_lanes(shown.is_array, shown.rate) {
-        put_all(shown.value_type, words, page);
-        return;
-    }
-    for (lane, word) in words.iter().enumerate() {
-        let item = lane_item(lanes, lane, *word);
-        put_item(Digits::Decimal, shown.value_type, item, page);
-    }
-}
-
-/// Writes a blank and the value of each word.
-fn put_all<O: AnswerWriter + Drop>(value_type: IntType, words: &[u64], page: &mut Page<O>) {
     for word in words {
         put_word(Digits::Decimal, value_type, *word, page);
     }
 }
 
-/// Writes a name and ` =`, behind blanks.
-fn put_name<O: AnswerWriter + Drop>(named: NamedVariable<'_>, page: &mut Page<O>) {
-    page.put(b"  ");
-    page.put(named.name);
-    page.put(b" =");
-}
-
 /// The depth of the top frame, 0 where the program has ended.
-fn depth<M: RecordedMachine>(machine: &M) -> usize {
+pub(crate) fn depth<M: RecordedMachine>(machine: &M) -> usize {
     match machine.position() {
         Some(position) => position.depth,
         None => 0,
     }
 }
 
-/// The name of the function of the top frame, its first bytes; none where the program has ended.
-fn function<M: RecordedMachine>(machine: &M) -> ArrayVec<u8, NAME> {
-    let mut name = ArrayVec::new();
-    let Some(position) = machine.position() else {
-        return name;
-    };
-    for byte in position.function {
-        if !name.is_full() {
-            name.push(*byte);
-        }
-    }
-    name
-}
-
-/// A number for each variable: twice its own, and one more for one of a function.
-fn key(id: VarId) -> u64 {
-    match id {
-        VarId::File(number) => (number as u64).wrapping_mul(2),
-        VarId::Local(number) => (number as u64).wrapping_mul(2).wrapping_add(1),
-    }
-}
-
 /// The words of a scalar.
-fn words_of<M: RecordedMachine>(shown: Shown, machine: &M) -> Words {
+pub(crate) fn words_of<M: RecordedMachine>(shown: Shown, machine: &M) -> Words {
     let mut words = Words::new();
     for index in 0..shown.count.min(WIDEST) {
         if !words.is_full() {

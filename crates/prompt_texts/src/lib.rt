@@ -14,6 +14,7 @@ mod lanes;
 mod looks;
 mod marked;
 mod moments;
+mod noted;
 mod page;
 mod places;
 mod refusals;
