@@ -15,7 +15,7 @@ returns-in-Some g c s d st =
     let stands = g.M.RecordedMachine.stands in
     let h = held c.args.holding.now in
     let named : Some (target_view c.in-Some.target) ≡ place_target c.args.name.now =
-    sym (ap target_option c.in-Some.is) ∙ c.print_of.ensures ∙ ap (λ text. print_of (command_of text)) c.printing_line.ensures in
+    sym (ap target_option c.in-Some.is) ∙ c.print_of.ensures ∙ ap (λ text. print_of (command_of text)) (c.as_slice.ensures.value ∙ c.printing_line-line.ensures) in
     subst (λ target. HasDone stands s (writes_of s d h target) d c.watch_named.new.session × (held c.watch_named.new.holding ≡ writes_of_then s d h target (bytes_option c.args.condition)))
     named (c.watch_named.ensures s d st)
 
@@ -24,6 +24,6 @@ returns-in-None g c s d st =
     let stands = g.M.RecordedMachine.stands in
     let h = held c.args.holding.now in
     let named : None ≡ place_target c.args.name.now =
-    sym (ap target_option c.in-None.is) ∙ c.print_of.ensures ∙ ap (λ text. print_of (command_of text)) c.printing_line.ensures in
+    sym (ap target_option c.in-None.is) ∙ c.print_of.ensures ∙ ap (λ text. print_of (command_of text)) (c.as_slice.ensures.value ∙ c.printing_line-line.ensures) in
     subst (λ target. HasDone stands s (writes_of s d h target) d c.args.session.now × (h ≡ writes_of_then s d h target (bytes_option c.args.condition)))
     named (done_nothing stands s d c.args.session.now st, refl)
