@@ -48,10 +48,19 @@ class Prompt(Looks):
 
     def scalars(self):
         """What the scalars in sight are: those of the file, and the parameters and local ones of the top frame."""
-        top = next(iter(self.standings()), None)
-        found = {it: self.state.memory[it] for it in self.program.globals if not it.is_array}
-        local = [it for it in (top.scope if top else []) if not it.is_array]
-        return found | {it: top.frame.words[it] for it in local}
+        return self.scalars_of_file() | self.scalars_in(next(iter(self.standings()), None))
+
+    def scalars_of_file(self):
+        return {it: self.state.memory[it] for it in self.program.globals if not it.is_array}
+
+    def scalars_in(self, standing):
+        """What the parameters and local scalars in sight of a frame are, if there is one."""
+        return {it: standing.frame.words[it] for it in standing.scope if not it.is_array} if standing else {}
+
+    def noted(self):
+        """Of the top frame and the one that called it, by depth and function: the lanes that it shows, and what its scalars are."""
+        depth = len(self.state.frames)
+        return {(depth - number, it.frame.function.name): (it.lanes, self.scalars_in(it)) for number, it in enumerate(self.standings()[:2])}
 
     def top(self):
         """The depth and the function of the top frame, if there is one."""
@@ -83,14 +92,14 @@ class Prompt(Looks):
 
     def after(self, move, awaited=None):
         """What is shown of a move, which gives the debugger's answer."""
-        before, top, lanes = self.scalars(), self.top(), self.active()
+        file, frames, lanes = self.scalars_of_file(), self.noted(), self.active()
         reason = reason_of(move())
         self.selected, self.listed = 0, None
         self.end_temporary(reason)
         place = self.place()
         between = " " if len(f"{reason}: {place}") <= COLUMNS and "\n" not in place else "\n"
         head = f"{reason}:{between}{place}" if reason else place
-        return [*head.split("\n"), *self.around(), *self.changes(before, top, lanes), *self.returned(reason, awaited), *self.displays()]
+        return [*head.split("\n"), *self.around(), *self.changes(file, frames, lanes), *self.returned(reason, awaited), *self.displays()]
 
     def end_temporary(self, reason):
         """A temporary breakpoint goes that has stopped a move."""
@@ -98,14 +107,21 @@ class Prompt(Looks):
         if number in self.temporary:
             del self.stops[number]
 
-    def changes(self, before, top, lanes):
-        """A line for each scalar that is new or another than before; those of a function count where a frame of its name has the same depth."""
+    def changes(self, file, frames, lanes):
+        """A line for each scalar in sight that is new or another than before: of the top frame where it was the top one, or called that one."""
+        found = self.changed(self.scalars_of_file(), file, lanes)
+        if self.top() not in frames:
+            return found
+        lanes, before = frames[self.top()]
+        return found + self.changed(self.scalars_in(self.standings()[0]), before, lanes)
+
+    def changed(self, scalars, before, lanes):
+        """A line for each of these that is new or another than before, when these lanes were active."""
         found = []
-        for it, words in self.scalars().items():
-            if before.get(it) == words or (it not in self.program.globals and top != self.top()):
-                continue
-            old = f"{words_text(it, before[it], lanes)} ->" if it in before else ""
-            found.append(f"  {it.name} ={old}{words_text(it, words, self.active())}")
+        for it, words in scalars.items():
+            if before.get(it) != words:
+                old = f"{words_text(it, before[it], lanes)} ->" if it in before else ""
+                found.append(f"  {it.name} ={old}{words_text(it, words, self.active())}")
         return found
 
     def goto(self, number):
