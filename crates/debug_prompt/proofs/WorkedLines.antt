@@ -8,6 +8,7 @@ use Rattle.gang_types.specs.declared.places.VarId.TheVariants as id
 use Rattle.debug_answers.specs.declared.stops.Stop.TheVariants as stop
 use Rattle.prompt_lines.specs.declared.line.Kind.TheVariants as kind
 use Rattle.prompt_lines.specs.Sources.{Sheet}
+use Rattle.conditional_stops.specs.declared.writes.SetPart.TheVariants as part
 use Rattle.conditional_stops.specs.declared.going.Direction.TheVariants as direction
 use Rattle.conditional_stops.specs.declared.watches.Watch.{Watch}
 use Rattle.conditional_stops.specs.declared.watches.Watch.TheVariants as watch
@@ -21,7 +22,7 @@ use Rattle.prompt_scenes.specs.declared.holding.LastMove.TheVariants as last
 use Rattle.prompt_moves.specs.Following.{begun, follows}
 use Rattle.prompt_moves.specs.Moments.{all_back, at_first, is_unset, is_whole, to_moment}
 use Rattle.prompt_moves.specs.Pieces.{at_breakpoint, continued}
-use Rattle.prompt_stops.specs.Breaking.{means_at, numbered, spot_of, text_watched, watched_as, write_name, writes_by, written_in}
+use Rattle.prompt_stops.specs.Breaking.{means_at, numbered, place_target, spot_of, text_watched, watched_as, write_name, writes_by, written_in}
 use Rattle.prompt_past.specs.FramePast.{is_kept, is_later}
 use Rattle.prompt_going.specs.GoingOn.{walks_by, way_by}
 use Rattle.debug_prompt.specs.Doing.{commands_of, held_after, kept_after}
@@ -236,12 +237,22 @@ negated_row = refl
 other_word_row : write_name (codes "watch -word total") ≡ None
 other_word_row = refl
 
--- a number is taken for it; a name that stands for no scalar takes none
-scalar_row : (s : Setting) (d : Debugger) → writes_by s d held_at_start (Some (id.File 0)) ≡ numbered s d
+-- a number is taken for a scalar, and for an element; what stands for neither takes none
+scalar_row : (s : Setting) (d : Debugger) → writes_by s d held_at_start (Some (record { id = id.File 0; part = part.Scalar })) ≡ numbered s d
 scalar_row s d = refl
 
-no_scalar_row : (s : Setting) (d : Debugger) → writes_by s d held_at_start None ≡ []
-no_scalar_row s d = refl
+element_row : (s : Setting) (d : Debugger) → writes_by s d held_at_start (Some (record { id = id.File 0; part = part.Element 2 })) ≡ numbered s d
+element_row s d = refl
+
+no_place_row : (s : Setting) (d : Debugger) → writes_by s d held_at_start None ≡ []
+no_place_row s d = refl
+
+-- the text behind `-w` is read as behind `print`
+element_text_row : place_target (codes "table[2]") ≡ Some (record { name = codes "table"; at = Some 2 })
+element_text_row = refl
+
+some_elements_row : place_target (codes "table@2") ≡ None
+some_elements_row = refl
 
 in_depth : ℕ → ℕ → Watch
 in_depth number deep = watch.Variable (record { number = number; depth = deep; id = id.Local 4; at = None; name = record { items = codes "v" } })
