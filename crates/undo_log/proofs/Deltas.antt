@@ -1,13 +1,17 @@
 -- Moments of old words, through the edits of the two rings.
-use Rattle.std.proofs.Common.{◌≡◌, ℕ, zero, suc, ◌+◌, ◌-◌, ◌*◌, ◌<◌, ◌≤◌, List, [], ◌∷◌, length, take, drop, set, get_or, slice_get, Some, None, refl, ap, ◌∙◌, map, All, arith, add-one}
-use Rattle.std.proofs.lemmas.List.{take-take, drop-take, length-set, set-set, set-get_or}
+use Rattle.std.proofs.Common.{◌≡◌, ℕ, zero, suc, ◌+◌, ◌-◌, ◌*◌, ◌<◌, ◌≤◌, List, [], ◌∷◌, length, take, drop, set, get_or, slice_get, Some, None, refl, sym, ap, ◌∙◌, map, All, arith, add-one}
+use Rattle.std.specs.Prelude.{Bool, false, ◌&&◌, nat_le, nat_lt}
+use Rattle.std.proofs.lemmas.List.{take-take, drop-take, get_or-set_other, length-set, set-set, set-get_or}
+use Rattle.std.proofs.lemmas.Bool.{and_from, false≢true, le-leb, lt-ltb, or_parts}
+use Rattle.std.specs.List.{list_any}
+use Rattle.std.proofs.Math.Logic.{◌≢◌}
 use Rattle.std.proofs.lemmas.List.Elements.{All-head, All-tail, All-cons}
 use Rattle.std.proofs.Math.Nat.{mul-le-mul_right}
 use Rattle.circular_buffer.specs.Buffer.{last_item}
 use Rattle.undo_log.specs.declared.timeline.Undone.{Undone}
 use Rattle.undo_log.specs.declared.changes.Change.{Change}
 use Rattle.undo_log.specs.declared.events.Mark.{Mark}
-use Rattle.undo_log.specs.History.{Moment, moment, History}
+use Rattle.undo_log.specs.History.{Moment, moment, History, SameBetween, AreKeptBetween}
 use Rattle.undo_log.specs.Deltas.{left_of, one_more}
 use Rattle.undo_log.specs.DeltaRings.{moments, taken_back, total}
 
@@ -45,6 +49,24 @@ moments_set i v old m (x ∷ ms) cs ws o e =
     let same : x ≡ m = cc in
     let back : set (set ws i v) i (get_or ws i 0) ≡ ws = set-set ws i v (get_or ws i 0) ∙ set-get_or ws i 0 in
     rw (same, add-one, o) (ap (λ w. moment m.event (taken_back (take m.count cs) w) ∷ moments ms (drop m.count cs) (taken_back (take m.count cs) w)) back)
+
+-- a word of which none of the changes is, is as it was
+abbrev pub is_between : (first end : ℕ) → Change → Bool
+is_between first end c = nat_le first c.index && nat_lt c.index end
+
+other_word : (first end i : ℕ) (c : Change) → is_between first end c ≡ false → first ≤ i → i < end → i ≢ c.index
+other_word first end i c h from before same = false≢true (sym h ∙ and_from (nat_le first c.index) (nat_lt c.index end) (le-leb first c.index (omega (arith, from, same))) (lt-ltb c.index end (omega (arith, before, same))))
+
+pub taken_back_other : (first end : ℕ) (cs : List Change) (ws : List ℕ) → list_any (is_between first end) cs ≡ false → SameBetween first end (taken_back cs ws) ws
+taken_back_other first end [] ws h i from before = refl
+taken_back_other first end (c ∷ cs) ws h i from before =
+    let (here, others) = or_parts (is_between first end c) (list_any (is_between first end) cs) h in
+    sym (get_or-set_other ws c.index i c.old 0 (other_word first end i c here from before)) ∙ taken_back_other first end cs (set ws c.index c.old) others i from before
+
+pub kept_between : (first end : ℕ) (m : Mark) (ms : List Mark) (cs : List Change) (ws : List ℕ) → Some m ≡ slice_get ms 0 → list_any (is_between first end) (take m.count cs) ≡ false
+    → AreKeptBetween first end ws (moments ms cs ws)
+kept_between first end m [] cs ws e h = cc
+kept_between first end m (x ∷ ms) cs ws e h = let same : x ≡ m = cc in rw same (taken_back_other first end (take m.count cs) ws h)
 
 -- one more change is taken back
 pub taken_back_more : (c : Change) (n k : ℕ) (cs : List Change) (ws : List ℕ) → Some c ≡ slice_get cs 0 → k < n → taken_back (take (n - (k + 1)) (drop 1 cs)) (set ws c.index c.old) ≡ taken_back (take (n - k) cs) ws

@@ -1,10 +1,11 @@
 -- Moments, through the edits of the lists that they are made of.
-use Rattle.std.proofs.Common.{◌≡◌, ℕ, zero, suc, ◌-◌, ◌^◌, ◌≤◌, List, [], ◌∷◌, ◌++◌, length, take, drop, refl, ap, subst, Some, slice_get, Vec, Global, arith}
-use Rattle.std.specs.Prelude.{map, count_by}
+use Rattle.std.proofs.Common.{◌≡◌, ℕ, zero, suc, ◌-◌, ◌^◌, ◌≤◌, List, [], ◌∷◌, ◌++◌, length, take, drop, inl, inr, ◌∙◌, refl, sym, ap, subst, Some, slice_get, Vec, Global, arith}
+use Rattle.std.specs.Prelude.{map, count_by, min, slice_index}
 use Rattle.std.specs.List.{All}
-use Rattle.std.proofs.lemmas.List.{take-map, take_all, length-take, length-map, map_push, length_push}
+use Rattle.std.proofs.lemmas.Bool.{cases_order}
+use Rattle.std.proofs.lemmas.List.{get_or_past, take-map, take_all, length-take, length-map, map_push, length_push}
 use Rattle.undo_log.specs.declared.timeline.Undone.{Undone}
-use Rattle.undo_log.specs.History.{Moment, moment, History, is_step, steps_in}
+use Rattle.undo_log.specs.History.{Moment, moment, History, SameBetween, AreKeptBetween, is_step, steps_in}
 use Rattle.circular_buffer.specs.Buffer.{keep_last}
 use Rattle.undo_log.specs.Snapshots.{moments}
 
@@ -76,6 +77,25 @@ keep_last-all n xs h = let e : length xs - n ≡ 0 = omega arith in rw e
 pub All-first : {X : Type 0} (P : X → Type 0) (x : X) (xs : List X) → Some x ≡ slice_get xs 0 → All P xs → P x
 All-first P x [] e h = cc
 All-first P x (y ∷ xs) e h = let same : y ≡ x = cc in subst P same (h 0 y (omega arith))
+
+-- words past the ends of two lists of a length are alike
+same_past : (old new : List ℕ) (i : ℕ) → length new ≡ length old → length new ≤ i → slice_index new i ≡ slice_index old i
+same_past old new i long past = get_or_past new i 0 past ∙ sym (get_or_past old i 0 (omega (arith, long, past)))
+
+pub same_on : (first end index : ℕ) (old new : List ℕ) → length new ≡ length old → min end (length new) ≤ index → SameBetween first index old new → SameBetween first end old new
+same_on first end index old new long past same i from before =
+    elim (cases_order i index) [
+      | inl here ↦ same_past old new i long (omega (arith, past, before, here))
+      | inr (inl below) ↦ same i from below
+      | inr (inr above) ↦ same_past old new i long (omega (arith, past, before, above))
+    ]
+
+-- the words before the newest event stand first
+pub kept_between : (first end : ℕ) (x : Vec ℕ Global) (es : List Undone) (ls : List (Vec ℕ Global)) (ws : List ℕ) → (length es ≡ 0 → ⊥) → Some x ≡ slice_get ls 0 → SameBetween first end x.items ws
+    → AreKeptBetween first end ws (moments es (map items_of ls))
+kept_between first end x [] ls ws some e h = absurd (some refl)
+kept_between first end x (event ∷ es) [] ws some e h = cc
+kept_between first end x (event ∷ es) (y ∷ ls) ws some e h = let same : y ≡ x = cc in rw same h
 
 module _ {X : Type 0} (f : X → List ℕ) where
   -- the newest event is taken back

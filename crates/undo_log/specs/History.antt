@@ -1,5 +1,5 @@
 -- What a record of old words is, however it is kept.
-use Rattle.std.specs.Prelude.{◌≡◌, ℕ, Bool, true, false, List, [], ◌∷◌, length, take, slice_set, count_by, map, replicate, Result, Ok, Err}
+use Rattle.std.specs.Prelude.{◌≡◌, ℕ, ◌<◌, ◌≤◌, Bool, true, false, List, [], ◌∷◌, length, take, slice_index, slice_set, count_by, map, replicate, Result, Ok, Err}
 use Rattle.undo_log.specs.declared.timeline.Undone.{Undone}
 use Rattle.undo_log.specs.declared.timeline.Undone.TheVariants.{Step, Poke}
 use Rattle.undo_log.specs.declared.timeline.Back.{Back}
@@ -41,6 +41,19 @@ TakenBack old (Err none) new = (old.past ≡ []) × (new ≡ old)
 abbrev pub is_step : Undone → Bool
 is_step Step = true
 is_step Poke = false
+
+-- each word of an index from the first on and before the end is the same in both lists
+abbrev pub SameBetween : (first end : ℕ) → (old new : List ℕ) → Type 0
+SameBetween first end old new = (i : ℕ) → first ≤ i → i < end → slice_index new i ≡ slice_index old i
+
+-- the words of these indices are those before the newest kept event; of a record that keeps none it is not said
+abbrev pub AreKeptBetween : (first end : ℕ) → (words : List ℕ) → List Moment → Type 0
+AreKeptBetween first end words [] = ⊥
+AreKeptBetween first end words (newest ∷ past) = SameBetween first end newest.before words
+
+-- the newest kept event has set no word of these indices to another value
+abbrev pub HasSetNone : (first end : ℕ) → History → Type 0
+HasSetNone first end h = AreKeptBetween first end h.words h.past
 
 -- how many of the kept events are steps
 abbrev pub steps_in : List Moment → ℕ

@@ -1,5 +1,6 @@
 //! Words that were set, and what they were before.
-ghost use Rattle.std.specs.Prelude.{◌≡◌, ◌<◌, ◌≤◌, length, take, drop, All};
+ghost use Rattle.std.specs.Prelude.{◌≡◌, ◌<◌, ◌≤◌, ◌&&◌, nat_le, nat_lt, length, take, drop, All};
+ghost use Rattle.std.specs.List.{list_any};
 ghost use Rattle.circular_buffer.specs.Buffer.{buffer};
 ghost use Rattle.undo_log.specs.DeltaRings.{taken_back};
 
@@ -10,6 +11,21 @@ use circular_buffer::HeapCircularBuffer;
 pub(crate) struct Change {
     pub(crate) index: usize,
     pub(crate) old: u64,
+}
+
+/// Whether one of the first `count` changes is of a word of an index from `first` on and before `end`.
+pub(crate) fn is_any_between(
+    changes: &HeapCircularBuffer<Change>,
+    count: usize,
+    first: usize,
+    end: usize,
+) -> bool
+    ensures { result ≡ list_any (λ c. nat_le first c.index && nat_lt c.index end) (take count changes.now.items) }
+{
+    changes
+        .iter()
+        .take(count)
+        .any(|change| first <= change.index && change.index < end)
 }
 
 /// Takes `count` changes back, the newest first, and answers how many words it wrote.

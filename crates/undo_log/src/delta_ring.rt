@@ -2,7 +2,7 @@
 ghost use Rattle.std.specs.Prelude.{◌≡◌, ◌+◌, ◌-◌, ◌^◌, ◌<◌, ◌≤◌, [], ◌∷◌, take, drop, length, All, slice_index, IfOk, OnOk, OnErr, IsOk};
 ghost use Rattle.circular_buffer.specs.Buffer.{buffer};
 
-use crate::changes::{Change, write_back};
+use crate::changes::{Change, is_any_between, write_back};
 use crate::events::{Mark, steps_of};
 use crate::timeline::{Back, NoHistory, Timeline, Undone};
 use circular_buffer::HeapCircularBuffer;
@@ -171,6 +171,13 @@ impl Timeline for DeltaRing {
             event: mark.event,
             written,
         })
+    }
+
+    fn may_have_set(&self, first: usize, end: usize) -> bool {
+        match self.marks.front() {
+            Some(newest) => is_any_between(&self.changes, newest.count, first, end),
+            None => true,
+        }
     }
 
     #[inline(always)]

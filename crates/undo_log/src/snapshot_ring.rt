@@ -1,6 +1,6 @@
 //! The plain form of a record: a whole list of words for each kept event.
-ghost use Rattle.std.specs.Prelude.{◌≡◌, ◌^◌, ◌<◌, ◌≤◌, [], length, replicate, IfOk, OnOk, OnErr};
-ghost use Rattle.undo_log.specs.History.{new_history, limited, TakenBack};
+ghost use Rattle.std.specs.Prelude.{◌≡◌, ◌^◌, ◌<◌, ◌≤◌, [], false, length, replicate, IfOk, OnOk, OnErr};
+ghost use Rattle.undo_log.specs.History.{SameBetween, new_history, limited, TakenBack};
 
 use crate::events::{forget_at, steps_among, steps_of};
 use crate::timeline::{Back, NoHistory, Timeline, Undone};
@@ -120,6 +120,16 @@ impl Timeline for SnapshotRing {
         Ok(Back { event, written })
     }
 
+    fn may_have_set(&self, first: usize, end: usize) -> bool {
+        if self.events.is_empty() {
+            return true;
+        }
+        match self.lists.front() {
+            Some(before) => differ_between(self.words.as_slice(), before.as_slice(), first, end),
+            None => true,
+        }
+    }
+
     #[inline(always)]
     fn kept(&self) -> usize {
         self.events.len()
@@ -151,4 +161,17 @@ impl Timeline for SnapshotRing {
         let _limit = self.limit;
         usize::MAX
     }
+}
+
+/// Whether two lists differ in a word of an index from `first` on and before `end`.
+fn differ_between(words: &[u64], before: &[u64], first: usize, end: usize) -> bool
+    requires { length words.now ≡ length before.now }
+    ensures { result ≡ false → SameBetween first end before.now words.now }
+{
+    for index in first..end.min(words.len()) {
+        if words[index] != before[index] {
+            return true;
+        }
+    }
+    false
 }

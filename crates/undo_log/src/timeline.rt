@@ -1,6 +1,6 @@
 //! What a record of old words is, however it is kept.
-ghost use Rattle.std.specs.Prelude.{◌≡◌, ◌+◌, ◌<◌, ◌≤◌, ℕ, length, slice_index, IfOk, OnOk, OnErr, IsOk};
-ghost use Rattle.undo_log.specs.History.{History, with_word, marked, limited, TakenBack, steps_in};
+ghost use Rattle.std.specs.Prelude.{◌≡◌, ◌+◌, ◌<◌, ◌≤◌, ℕ, false, length, slice_index, IfOk, OnOk, OnErr, IsOk};
+ghost use Rattle.undo_log.specs.History.{History, HasSetNone, with_word, marked, limited, TakenBack, steps_in};
 
 use std::alloc::AllocError;
 use thiserror::Error;
@@ -60,6 +60,10 @@ pub trait Timeline {
         ensures answer { TakenBack (history self.old) result (history self.new) }
         ensures written { IfOk result (λ back. back.written ≤ (history self.old).room) }
         ensures left { OnErr result (left self.new ≡ left self.old) };
+
+    /// Whether the newest kept event may have set a word of an index from `first` on and before `end`. Where no event is kept, it may.
+    fn may_have_set(&self, first: usize, end: usize) -> bool
+        ensures { result ≡ false → HasSetNone first end (history self.now) };
 
     /// The number of kept events.
     fn kept(&self) -> usize
