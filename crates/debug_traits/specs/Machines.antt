@@ -74,6 +74,16 @@ ShowsNext s d from place (Some local) = (v : Variable) × (from place ≡ v ∷ 
 abbrev pub IsPart : Option ℕ → Shown → Type 0
 IsPart at shown = bad_part false at shown.is_array shown.rate shown.count ≡ None
 
+-- ---- what the variables of the file show
+
+-- each variable of the file shows the same in both states
+abbrev pub ShowFileAlike : Setting → (old new : State) → Type 0
+ShowFileAlike s old new = (v : Variable) → IsOneOf (file_variables s) v → shown_words new v ≡ shown_words old v
+
+-- each shows what it showed before the newest event; where there was none, this is always so
+abbrev pub ShowsFileAsBefore : Setting → Debugger → Type 0
+ShowsFileAsBefore s d = ShowFileAlike s (now s (taken_back d)) (now s d)
+
 -- ---- events
 
 -- a fault of the definitions

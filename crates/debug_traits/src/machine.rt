@@ -6,7 +6,7 @@ ghost use Rattle.gang_model.specs.Types.Tree.{Variable};
 ghost use Rattle.gang_model.specs.Debugger.Positions.{line_now};
 ghost use Rattle.gang_model.specs.Debugger.Debugger.{Debugger, Setting, bad_part, depth, found, has_ended, kept_steps, least_from, now, shown_words, step_lines};
 ghost use Rattle.gang_model.specs.Texts.Text.{where_text};
-ghost use Rattle.debug_traits.specs.Machines.{Finds, FindsInFile, IsPart, IsShown, Limits, LimitsWords, PokesOrNot, PokesWords, ShowsNamed, ShowsNext, Steps, StepsWords, Undoes, UndoesWords, call_text, depth_of, file_variables, line_of_position, listed, listed_parameters, position_line, position_text};
+ghost use Rattle.debug_traits.specs.Machines.{Finds, FindsInFile, IsPart, IsShown, Limits, LimitsWords, PokesOrNot, PokesWords, ShowsFileAsBefore, ShowsNamed, ShowsNext, Steps, StepsWords, Undoes, UndoesWords, call_text, depth_of, file_variables, line_of_position, listed, listed_parameters, position_line, position_text};
 
 use gang_types::{FaultName, IntType, Mask, Place, Rate, VarId};
 use std::alloc::AllocError;
@@ -125,6 +125,13 @@ pub trait RecordedMachine {
         ensures run { same_run self.old self.new }
         ensures words { PokesWords (history self.old) result (history self.new) }
         ensures moves { moves self.new ≡ moves self.old };
+
+    /// Whether the newest event may have set a variable of the file. If not, each of them shows what it showed before that event.
+    fn may_have_set_file(&self) -> bool
+        ensures { result ≡ false → (s : Setting) (d : Debugger) → stands self.now s d → ShowsFileAsBefore s d }
+    {
+        true
+    }
 
     /// The number of events that can be taken back.
     fn kept(&self) -> usize

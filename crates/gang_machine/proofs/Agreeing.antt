@@ -1,17 +1,15 @@
 -- What a machine shows is what the debugger of the definitions shows.
-use Rattle.std.proofs.Common.{◌≡◌, ℕ, List, [], ◌∷◌, length, map, refl, ap, ap₂, sym, subst, ◌∙◌, Option}
+use Rattle.std.proofs.Common.{◌≡◌, ℕ, List, ◌∷◌, length, refl, ap, ap₂, sym, subst, ◌∙◌, Option}
 use Rattle.std.specs.Prelude.{if◌then◌else◌}
 use Rattle.std.proofs.lemmas.List.{length-map}
 use Rattle.undo_log.specs.History.{History}
-use Rattle.gang_types.specs.declared.places.VarId.{VarId}
-use Rattle.gang_types.specs.declared.places.VarId.TheVariants.{File, Local}
 use Rattle.gang_types.specs.declared.places.Spot.{Spot}
 use Rattle.gang_model.specs.Running.Lanes.{Fault}
-use Rattle.gang_model.specs.Running.State.{Frame, State, local_view, local_words, view_of as array_of, words_in}
+use Rattle.gang_model.specs.Running.State.{State}
 use Rattle.gang_model.specs.Running.Step as source
 use Rattle.gang_model.specs.Running.Step.{Stepped, step}
 use Rattle.gang_model.specs.Types.Tree as t
-use Rattle.gang_model.specs.Types.Tree.{StepNumber, Function, Standing, Variable}
+use Rattle.gang_model.specs.Types.Tree.{Variable}
 use Rattle.gang_model.specs.Debugger.Debugger.{Debugger, Setting, elements, now, shown_words}
 use Rattle.gang_model.specs.Debugger.Events.{Step, after, start}
 use Rattle.gang_model.specs.Debugger.Positions.{lanes_now, spot_now, standing_of}
@@ -23,25 +21,10 @@ use Rattle.mask_states.specs.MaskedStep.{Fails, Goes, Over, MaskedStepped, maske
 use Rattle.mask_states.specs.Law.{AgreesWith}
 use Rattle.mask_states.specs.Stands.{AreLowerable, EndAlike}
 use Rattle.mask_states.proofs.RunsAlike.{runs_alike}
+use Rattle.mask_states.proofs.UntaskedValues.{untasked_view, untasked_words}
 use Rattle.gang_machine.specs.Standings.{SeenStands, masked_at, view_of}
 
 -- ---- states without tasks
-
-untasked_locals : (frames : List Frame) (id : VarId) → local_words (map untasked_frame frames) id ≡ local_words frames id
-untasked_locals [] id = refl
-untasked_locals (frame ∷ frames) id = refl
-
-untasked_words : (state : State) (id : VarId) → words_in (untasked state) id ≡ words_in state id
-untasked_words state (File k) = refl
-untasked_words state (Local k) = untasked_locals state.frames (Local k)
-
-untasked_views : (frames : List Frame) (id : VarId) → local_view (map untasked_frame frames) id ≡ local_view frames id
-untasked_views [] id = refl
-untasked_views (frame ∷ frames) id = refl
-
-untasked_view : (state : State) (id : VarId) → array_of (untasked state) id ≡ array_of state id
-untasked_view state (File k) = refl
-untasked_view state (Local k) = untasked_views state.frames (Local k)
 
 pub untasked_shown : (state : State) (v : Variable) → shown_words (untasked state) v ≡ shown_words state v
 untasked_shown state v = ap₂ (λ view words. if v.is_array then elements view state else words) (untasked_view state v.id) (untasked_words state v.id)

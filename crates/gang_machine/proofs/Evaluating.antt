@@ -44,8 +44,8 @@ use Rattle.frame_expressions.specs.Meanings.{Means, entries_at}
 use Rattle.gang_machine.specs.Standings.{SeenStands, view_of}
 use Rattle.gang_machine.proofs.Agreeing.{agrees, masked_now}
 use Rattle.gang_machine.proofs.FrameNames.{is_declared, is_well_scoped}
-use Rattle.gang_machine.proofs.FrameValues.{by_regions, untasked_up_to}
-use Rattle.gang_machine.proofs.FrameViews.{spot_at_is}
+use Rattle.gang_machine.proofs.FrameValues.{by_regions}
+use Rattle.gang_machine.proofs.FrameViews.{spot_at_is, untasked_at}
 
 module _ {T : Type 0} (history : T → History) (w entry : ℕ) (compiled : CompiledProgram) (runnable : IsRunnable compiled.program) (lines : List ℕ) (words : MachineWords T) (s : Setting) (d : Debugger)
     (stands : SeenStands (view_of w entry compiled.program lines words.layout (history words.store.timeline)) s d) where
@@ -68,7 +68,7 @@ module _ {T : Type 0} (history : T → History) (w entry : ℕ) (compiled : Comp
       is_sound = sym (ap₂ (λ p at. expression written (entries_at p at)) stands.program same_spot) ∙ means.is_sound
 
       words_are : untasked (state_at deep (now s d)) ≡ (masked_up_to deep masked).state
-      words_are = untasked_up_to deep (now s d) ∙ ap (state_at deep) (agrees w entry compiled.program lines words.layout (history words.store.timeline) runnable.lowerable s d stands).0.words
+      words_are = untasked_at deep (now s d) ∙ ap (state_at deep) (agrees w entry compiled.program lines words.layout (history words.store.timeline) runnable.lowerable s d stands).0.words
 
       same_value : value (expr_view means.tree) (lanes_of w lanes) (region_state history w words active.frame) ≡ value (expr_view means.tree) (lanes_of w lanes) (state_at deep (now s d))
       same_value =

@@ -23,7 +23,7 @@ use Rattle.machine_states.specs.Variables.{Variables}
 use Rattle.frame_expressions.specs.Lanes.{called_lanes, lanes_at, made_lanes}
 use Rattle.gang_machine.specs.Standings.{SeenStands, view_of}
 use Rattle.gang_machine.proofs.Agreeing.{agrees, lanes_are, masked_now, spot_is}
-use Rattle.gang_machine.proofs.FrameValues.{untasked_up_to}
+use Rattle.gang_machine.proofs.FrameViews.{untasked_at}
 
 -- the lanes of calls hang on no tasks
 untasked_called : (frames : List Frame) → called_lanes (map untasked_frame frames) ≡ called_lanes frames
@@ -63,7 +63,7 @@ module _ (w entry : ℕ) (program : TypedProgram) (lines : List ℕ) (layout : L
     lanes_called variables regions shows within =
         ap (λ b. if b then called_lanes (frames_at (suc deep) (now s d).frames) else lanes_now (now s d)) below_is
         ∙ sym (untasked_called (frames_at (suc deep) (now s d).frames))
-        ∙ ap (λ (state : State). called_lanes state.frames) (untasked_up_to (suc deep) (now s d) ∙ ap (state_at (suc deep)) (agrees w entry program lines layout h lowerable s d stands).0.words)
+        ∙ ap (λ (state : State). called_lanes state.frames) (untasked_at (suc deep) (now s d) ∙ ap (state_at (suc deep)) (agrees w entry program lines layout h lowerable s d stands).0.words)
         ∙ called_shown (program_view program) variables w regions deep masked.state.frames masked.levels shows.frames within
 
   -- of the top frame
@@ -92,6 +92,6 @@ module _ (w entry : ℕ) (program : TypedProgram) (lines : List ℕ) (layout : L
         → made_lanes deep (now s d) ≡ lanes_in w regions (OfHead frame LanesOf)
     lanes_made variables regions shows =
         sym (untasked_called (frames_at deep (now s d).frames))
-        ∙ ap (λ (state : State). called_lanes state.frames) (untasked_up_to deep (now s d) ∙ ap (state_at deep) (agrees w entry program lines layout h lowerable s d stands).0.words)
+        ∙ ap (λ (state : State). called_lanes state.frames) (untasked_at deep (now s d) ∙ ap (state_at deep) (agrees w entry program lines layout h lowerable s d stands).0.words)
         ∙ ap (λ n. called_lanes (drop n masked.state.frames)) (height_is (length masked.state.frames) height)
         ∙ called_shown (program_view program) variables w regions frame masked.state.frames masked.levels shows.frames (omega (arith, height))

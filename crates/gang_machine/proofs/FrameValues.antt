@@ -1,18 +1,17 @@
 -- The value of an expression where a frame stands depends on the machine's regions alone.
-use Rattle.std.proofs.Common.{◌≡◌, refl, sym, ap, subst, ◌∙◌, ℕ, suc, ◌-◌, ◌<◌, ◌≤◌, List, [], ◌∷◌, drop, length, map, arith}
+use Rattle.std.proofs.Common.{◌≡◌, refl, sym, ap, subst, ◌∙◌, ℕ, suc, ◌<◌, ◌≤◌, [], ◌∷◌, length, arith}
 use Rattle.std.specs.Prelude.{min, slice_get, slice_index}
-use Rattle.std.proofs.lemmas.List.{drop-map, length-map}
 use Rattle.gang_types.specs.declared.places.VarId.{VarId}
 use Rattle.gang_types.specs.declared.places.VarId.TheVariants.{File, Local}
 use Rattle.gang_types.specs.Lanes.{Lanes}
 use Rattle.gang_model.specs.Types.Tree.{Expr, Function, Var}
-use Rattle.gang_model.specs.Running.State.{Frame, State, local_view, local_words, view_of, words_in, words_of}
+use Rattle.gang_model.specs.Running.State.{State, view_of, words_in, words_of}
 use Rattle.gang_model.specs.Running.Value.{value}
 use Rattle.undo_log.specs.History.{History}
-use Rattle.debug_traits.specs.Frames.{state_at}
 use Rattle.mask_states.specs.Masked.{Masked}
-use Rattle.mask_states.specs.MaskedStep.{untasked, untasked_frame}
+use Rattle.mask_states.specs.MaskedStep.{untasked}
 use Rattle.mask_states.specs.Points.{points_in}
+use Rattle.mask_states.proofs.UntaskedValues.{untasked_view, untasked_words}
 use Rattle.machine_states.specs.ArrayParts.{view_at}
 use Rattle.machine_states.specs.Declared.{AreDeclared, IsThere, NamesDeclared, declared_before}
 use Rattle.machine_states.specs.Effects.{region_of}
@@ -35,30 +34,6 @@ use Rattle.frame_steps.specs.Standing.{IsActive, IsShown}
 use Rattle.frame_steps.proofs.RegionStates.{region_state, region_state_has, region_state_memory, region_state_views}
 use Rattle.machine_shown.specs.Frames.{masked_up_to, regions_up_to}
 use Rattle.machine_shown.proofs.FramePlaces.{declared_up_to, shows_up_to}
-
--- ---- a state without tasks has the same words
-
-same_locals : (frames : List Frame) (id : VarId) → local_words (map untasked_frame frames) id ≡ local_words frames id
-same_locals [] id = refl
-same_locals (frame ∷ frames) id = refl
-
-same_words : (state : State) (id : VarId) → words_in (untasked state) id ≡ words_in state id
-same_words state (File k) = refl
-same_words state (Local k) = same_locals state.frames (Local k)
-
-same_parts : (frames : List Frame) (id : VarId) → local_view (map untasked_frame frames) id ≡ local_view frames id
-same_parts [] id = refl
-same_parts (frame ∷ frames) id = refl
-
-same_view : (state : State) (id : VarId) → view_of (untasked state) id ≡ view_of state id
-same_view state (File k) = refl
-same_view state (Local k) = same_parts state.frames (Local k)
-
-pub untasked_up_to : (deep : ℕ) (state : State) → untasked (state_at deep state) ≡ state_at deep (untasked state)
-untasked_up_to deep state =
-    ap (λ frames. record state { frames = frames })
-    (sym (drop-map untasked_frame (length state.frames - deep) state.frames)
-    ∙ ap (λ n. drop (n - deep) (map untasked_frame state.frames)) (sym (length-map state.frames untasked_frame)))
 
 -- ---- the frames above a depth change no words
 
@@ -104,10 +79,10 @@ module _ {T : Type 0} (history : T → History) (width : ℕ) (compiled : Compil
   -- a state with the words of the masked one
   module _ (state : State) (words_are : untasked state ≡ (masked_up_to deep masked).state) where
     words_same : (id : VarId) → words_in state id ≡ words_in (masked_up_to deep masked).state id
-    words_same id = sym (same_words state id) ∙ ap (λ st. words_in st id) words_are
+    words_same id = sym (untasked_words state id) ∙ ap (λ st. words_in st id) words_are
 
     views_same : (id : VarId) → view_of state id ≡ view_of (masked_up_to deep masked).state id
-    views_same id = sym (same_view state id) ∙ ap (λ st. view_of st id) words_are
+    views_same id = sym (untasked_view state id) ∙ ap (λ st. view_of st id) words_are
 
     alike : (x : Var) → IsScalar variables active.function x → IsThere (declared_before variables active.function f active.step) x.id
         → AreReadAlike width x.rate (words_in state x.id) (words_in (region_state history width words active.frame) x.id)

@@ -19,7 +19,7 @@ use Rattle.machine_shown.specs.Frames.{masked_spot_at}
 use Rattle.gang_machine.specs.Standings.{SeenStands, view_of}
 use Rattle.gang_machine.proofs.Agreeing.{agrees, frames_alike, masked_now, spot_is, untasked_shown}
 
-untasked_at : (deep : ℕ) (state : State) → untasked (state_at deep state) ≡ state_at deep (untasked state)
+pub untasked_at : (deep : ℕ) (state : State) → untasked (state_at deep state) ≡ state_at deep (untasked state)
 untasked_at deep state =
     ap (λ frames. record state { frames = frames })
     (sym (drop-map untasked_frame (length state.frames - deep) state.frames)

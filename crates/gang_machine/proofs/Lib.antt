@@ -4,6 +4,7 @@ pub mod Beginnings
 mod BegunAgain
 pub mod EntryArrays
 mod Evaluating
+pub mod FileWords
 pub mod Finding
 mod FrameLanes
 mod FrameNames

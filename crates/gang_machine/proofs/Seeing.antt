@@ -131,7 +131,7 @@ module _ (w : ℕ) (compiled : CompiledProgram) (runnable : IsRunnable compiled.
         ∙ ap length (shows.memory (File k)) ∙ sizes.file k v is scalar
 
 -- the variables of the file are those of the globals
-file_same : (globals : List Global) → file_variables globals ≡ map (λ g. variable_view g.variable) globals
+pub file_same : (globals : List Global) → file_variables globals ≡ map (λ g. variable_view g.variable) globals
 file_same [] = refl
 file_same (global ∷ globals) = ap (λ vs. variable_view global.variable ∷ vs) (file_same globals)
 

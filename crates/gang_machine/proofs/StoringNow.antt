@@ -20,7 +20,7 @@ use Rattle.frame_expressions.specs.Stores.{elements_from, meets_reached, packed_
 use Rattle.gang_machine.specs.Standings.{SeenStands, view_of}
 use Rattle.gang_machine.specs.Stored.{meets_next}
 use Rattle.gang_machine.proofs.Agreeing.{agrees, lanes_are, masked_now, spot_is}
-use Rattle.gang_machine.proofs.FrameValues.{untasked_up_to}
+use Rattle.gang_machine.proofs.FrameViews.{untasked_at}
 
 -- what is stored to hangs on no tasks
 untasked_stores : (view : View) (lanes : Lanes) (state : State) (o : Option Stmt) → some_stores view lanes (untasked state) o ≡ some_stores view lanes state o
@@ -51,7 +51,7 @@ module _ (w entry : ℕ) (compiled : CompiledProgram) (runnable : IsRunnable com
 
   -- the part of an array that a name stands for at a depth is that of the masked state
   part_is : (deep : ℕ) (id : VarId) → array_of (state_at deep (now s d)) id ≡ array_of (state_at deep (masked_now w entry compiled.program lines layout h runnable.lowerable s d stands).state) id
-  part_is deep id = sym (untasked_view (state_at deep (now s d)) id) ∙ ap (λ state. array_of state id) (untasked_up_to deep (now s d) ∙ ap (state_at deep) words_are)
+  part_is deep id = sym (untasked_view (state_at deep (now s d)) id) ∙ ap (λ state. array_of state id) (untasked_at deep (now s d) ∙ ap (state_at deep) words_are)
 
   pub stores_now : (deep : ℕ) (id : VarId) (first count : ℕ)
       → stores_to s.program deep id first count (now s d)

@@ -1,4 +1,5 @@
 pub mod Again
+pub mod FileWords
 pub mod Machines
 pub mod Nexts
 pub mod Openings

@@ -1,12 +1,14 @@
 //! The machine: a compiled program, and words that lie in a timeline.
-ghost use Rattle.std.specs.Prelude.{◌≡◌, ℕ, ◌<◌, ◌≤◌, false, true, is_err, length, slice_get, slice_index, IfSome};
+ghost use Rattle.std.specs.Prelude.{◌≡◌, ℕ, ◌^◌, ◌<◌, ◌≤◌, false, true, is_err, length, slice_get, slice_index, IfSome};
 ghost use Rattle.gang_types.specs.Masks.{IsGangWidth};
 ghost use Rattle.undo_log.specs.History.{steps_in};
 ghost use Rattle.gang_model.specs.Types.Tree.{Variable};
 ghost use Rattle.gang_model.specs.Debugger.Debugger.{Debugger, Setting, depth, kept_steps, least_from, now, shown_words, step_lines};
 ghost use Rattle.gang_model.specs.Debugger.Positions.{line_now};
 ghost use Rattle.gang_model.specs.Texts.Text.{where_text};
-ghost use Rattle.debug_traits.specs.Machines.{Finds, FindsInFile, IsPart, IsShown, Limits, LimitsWords, PokesOrNot, PokesWords, ShowsNamed, ShowsNext, Steps, StepsWords, Undoes, UndoesWords, call_text, depth_of, file_variables, line_of_position, listed, listed_parameters, position_line, position_text};
+ghost use Rattle.debug_traits.specs.Machines.{Finds, FindsInFile, IsPart, IsShown, Limits, LimitsWords, PokesOrNot, PokesWords, ShowsFileAsBefore, ShowsNamed, ShowsNext, Steps, StepsWords, Undoes, UndoesWords, call_text, depth_of, file_variables, line_of_position, listed, listed_parameters, position_line, position_text};
+ghost use Rattle.machine_words.specs.Ranges.{IsPlanned};
+ghost use Rattle.gang_machine.specs.FileWords.{LieBefore};
 ghost use Rattle.gang_machine.specs.Nexts.{listed_left};
 ghost use Rattle.gang_machine.specs.Again.{SameRun};
 ghost use Rattle.gang_machine.specs.Standings.{Stands, history_of, moves_of};
@@ -16,6 +18,7 @@ use debug_traits::{
     NamedVariable, NextLocal, PokesSurely, Position, RecordedMachine, Shown, StepEnd,
 };
 use frame_steps::CompiledProgram;
+use gang_memory::Layout;
 use machine_names::{ListedKind, file_number, least_from, named};
 use machine_shown::{call, poke, position};
 use machine_words::MachineWords;
@@ -80,6 +83,13 @@ impl<const W: usize, T: Timeline + Drop> RecordedMachine for Machine<W, T> {
         Ok(())
     }
 
+    fn may_have_set_file(&self) -> bool {
+        self.words
+            .store
+            .timeline
+            .may_have_set(0, end_of_file::<W>(&self.words.layout))
+    }
+
     fn kept(&self) -> usize {
         self.words.store.timeline.kept()
     }
@@ -136,6 +146,18 @@ impl<const W: usize, T: Timeline + Drop> RecordedMachine for Machine<W, T> {
 
 impl<const W: usize, T: Timeline + Drop> PokesSurely for Machine<W, T> {
     ghost pokes_surely = { λ wants. wants };
+}
+
+/// The first word behind the variables of the file.
+fn end_of_file<const W: usize>(layout: &Layout) -> usize
+    requires planned { IsPlanned W layout.now }
+    requires small { layout.now.words < 2 ^ 64 }
+    ensures { LieBefore result layout.now.file.items }
+{
+    match layout.file.last() {
+        Some(part) => part.first + part.len,
+        None => 0,
+    }
 }
 
 /// Changes how many events of the words are kept at most.

@@ -6,7 +6,7 @@ ghost use Rattle.gang_model.specs.Types.Tree.{Variable};
 ghost use Rattle.gang_model.specs.Debugger.Positions.{line_now};
 ghost use Rattle.gang_model.specs.Debugger.Debugger.{Debugger, Setting, depth, kept_steps, least_from, now, shown_words, step_lines};
 ghost use Rattle.gang_model.specs.Texts.Text.{where_text};
-ghost use Rattle.debug_traits.specs.Machines.{Finds, FindsInFile, IsPart, IsShown, Limits, LimitsWords, PokesOrNot, PokesWords, ShowsNamed, ShowsNext, Steps, StepsWords, Undoes, UndoesWords, call_text, depth_of, file_variables, line_of_position, listed, listed_parameters, position_line, position_text};
+ghost use Rattle.debug_traits.specs.Machines.{Finds, FindsInFile, IsPart, IsShown, Limits, LimitsWords, PokesOrNot, PokesWords, ShowsFileAsBefore, ShowsNamed, ShowsNext, Steps, StepsWords, Undoes, UndoesWords, call_text, depth_of, file_variables, line_of_position, listed, listed_parameters, position_line, position_text};
 ghost use Rattle.whole_runs.specs.Costs.{steps_again};
 ghost use Rattle.whole_runs.specs.Runs.{AsManyCopies, StandsWhole, inner_debugger};
 ghost use Rattle.whole_runs.specs.Histories.{history_of};
@@ -62,6 +62,10 @@ impl<M: CopiesOver + PokesSurely + FramedMachine> RecordedMachine for WholeRun<M
     fn poke(&mut self, shown: Shown, at: Option<u32>, word: u64) -> Result<(), AllocError> {
         self.make_ready();
         self.set_noted(None, shown, at, word)
+    }
+
+    fn may_have_set_file(&self) -> bool {
+        self.inner.may_have_set_file()
     }
 
     fn kept(&self) -> usize {
