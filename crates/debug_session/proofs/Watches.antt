@@ -1,17 +1,19 @@
 -- The words that watches show, one watch after the other.
-use Rattle.std.proofs.Common.{◌≡◌, refl, sym, subst, ap, ◌∙◌, ℕ, zero, suc, ◌+◌, ◌<◌, Bool, true, false, List, [], ◌∷◌, ◌++◌, length, get_or, drop, Option, Some, None, arith}
-use Rattle.std.specs.Prelude.{if◌then◌else◌, not}
+use Rattle.std.proofs.Common.{◌≡◌, refl, sym, subst, ap, ap₂, ◌∙◌, ℕ, zero, suc, ◌+◌, ◌<◌, Bool, true, false, List, [], ◌∷◌, ◌++◌, length, get_or, drop, Option, Some, None, arith}
+use Rattle.std.specs.Prelude.{◌==◌, if◌then◌else◌, not}
+use Rattle.std.proofs.lemmas.Bool.{eqb-true}
 use Rattle.arrayvec.specs.ArrayVec.{ArrayVec}
 use Rattle.gang_model.specs.Source.Names.{same_text}
-use Rattle.gang_model.proofs.SameTexts.{same_text-equal}
+use Rattle.gang_model.proofs.SameTexts.{same_text-equal, same_text-refl}
 use Rattle.gang_model.specs.Types.Tree.{Variable}
 use Rattle.gang_model.specs.Running.State.{State}
 use Rattle.gang_model.specs.Debugger.Debugger as model
-use Rattle.gang_model.specs.Debugger.Debugger.{Setting, differs, first_stop, target_words}
+use Rattle.gang_model.specs.Debugger.Debugger.{Setting, differs, first_stop, part_shown, target_words}
 use Rattle.debug_answers.specs.declared.stops.NumberedStop.{NumberedStop}
 use Rattle.debug_answers.specs.declared.stops.Stop.{Stop}
 use Rattle.debug_answers.specs.declared.stops.Stop.TheVariants as stop
-use Rattle.debug_answers.specs.Meanings.{IsStop, IsWatch}
+use Rattle.debug_answers.specs.Meanings.{AreStops, IsStop, IsWatch}
+use Rattle.debug_traits.specs.Machines.{ShowFileAlike}
 use Rattle.debug_session.specs.Moves.{noted, stop_words, watch_words}
 use Rattle.debug_session.proofs.Turns.{Turn, first_stop_at}
 
@@ -109,3 +111,50 @@ noted_at [] zero x y ys e = cc e
 noted_at [] (suc k) x y ys e = cc e
 noted_at (b ∷ before) zero x y ys e = let same : b.items ≡ y = cc e in (omega arith, same)
 noted_at (b ∷ before) (suc k) x y ys e = let (inside, same) = noted_at before k x y ys e in (omega (arith, inside), same)
+
+-- ---- a move that changes no watch
+
+head_tail : (x y : List ℕ) (xs ys : List (List ℕ)) → x ∷ xs ≡ y ∷ ys → (x ≡ y) × (xs ≡ ys)
+head_tail x y xs ys h = (cc h, cc h)
+
+-- a watch that shows the same does not differ
+same_words : (old new : State) (stop : model.Stop) (xs ys : List (List ℕ)) → stop_words old stop ++ xs ≡ stop_words new stop ++ ys → (differs old new stop ≡ false) × (xs ≡ ys)
+same_words old new (model.Line line) xs ys h = (refl, h)
+same_words old new (model.Watch target v) xs ys h =
+    let (first, others) = head_tail (target_words old target v) (target_words new target v) xs ys h in
+    (ap (λ words. not (same_text (target_words old target v) words)) (sym first) ∙ ap not (same_text-refl (target_words old target v)), others)
+
+pub none_differs : (old new : State) (meant : List (ℕ × model.Stop)) → watch_words old meant ≡ watch_words new meant → None ≡ first_stop (differs old new) meant
+none_differs old new [] h = refl
+none_differs old new (entry ∷ meant) h =
+    let (same, others) = same_words old new entry.1 (watch_words old meant) (watch_words new meant) h in
+    none_differs old new meant others ∙ sym (ap (λ b. if b then Some entry.0 else first_stop (differs old new) meant) same)
+
+-- where nothing is noted there is no watch
+no_words : (old state : State) (stop : model.Stop) (xs : List (List ℕ)) → [] ≡ stop_words old stop ++ xs → (stop_words state stop ≡ []) × ([] ≡ xs)
+no_words old state (model.Line line) xs h = (refl, h)
+no_words old state (model.Watch target v) xs h = cc h
+
+pub none_noted : (old state : State) (meant : List (ℕ × model.Stop)) → [] ≡ watch_words old meant → watch_words state meant ≡ []
+none_noted old state [] h = refl
+none_noted old state (entry ∷ meant) h =
+    let (none, others) = no_words old state entry.1 (watch_words old meant) h in
+    ap (λ words. words ++ watch_words state meant) none ∙ none_noted old state meant others
+
+pub none_there : (before : List (ArrayVec ℕ)) (b : Bool) → b ≡ (length before == 0) → b ≡ true → [] ≡ noted before
+none_there [] b is empty = refl
+none_there (words ∷ before) b is empty = let none = eqb-true (length (words ∷ before)) 0 (sym is ∙ empty) in absurd (omega (arith, none))
+
+-- watches are of variables of the file
+module _ (s : Setting) (old new : State) (alike : ShowFileAlike s old new) where
+  stop_alike : (given : Stop) (meant : model.Stop) → IsStop s given meant → stop_words old meant ≡ stop_words new meant
+  stop_alike (stop.Line line) (model.Line l) h = refl
+  stop_alike (stop.Line line) (model.Watch target v) h = absurd h
+  stop_alike (stop.Watch variable at) (model.Line l) h = absurd h
+  stop_alike (stop.Watch variable at) (model.Watch target v) h = ap (λ words. part_shown target.at words ∷ []) (sym (alike v (variable, h.is_file)))
+
+  pub watches_alike : (stops : List NumberedStop) (meant : List (ℕ × model.Stop)) → AreStops s stops meant → watch_words old meant ≡ watch_words new meant
+  watches_alike [] [] are = refl
+  watches_alike [] (entry ∷ meant) are = absurd are
+  watches_alike (given ∷ stops) [] are = absurd are
+  watches_alike (given ∷ stops) (entry ∷ meant) are = ap₂ (λ words others. words ++ others) (stop_alike given.stop entry.1 are.1) (watches_alike stops meant are.2)

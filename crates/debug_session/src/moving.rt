@@ -3,7 +3,7 @@ ghost use Rattle.std.specs.Prelude.{◌≡◌, ℕ, suc, ◌+◌, ◌-◌, ◌<�
 ghost use Rattle.undo_log.specs.History.{steps_in};
 ghost use Rattle.gang_model.specs.Running.State.{State};
 ghost use Rattle.gang_model.specs.Debugger.Debugger as model;
-ghost use Rattle.gang_model.specs.Debugger.Debugger.{Debugger, Setting, after_move, backward, ends_or_goes_on, forward, kept_steps, moved, now, stepped_back};
+ghost use Rattle.gang_model.specs.Debugger.Debugger.{Debugger, Setting, after_move, backward, differs, ends_or_goes_on, first_stop, forward, kept_steps, moved, now, stepped_back};
 ghost use Rattle.gang_model.specs.Debugger.Events.{Step};
 ghost use Rattle.debug_answers.specs.Meanings.{AreStops, Means};
 ghost use Rattle.debug_session.specs.Bounds.{TakesBack};
@@ -14,7 +14,7 @@ ghost use Rattle.debug_session.specs.Sessions.{bare, is_refused};
 use crate::goal::Goal;
 use crate::places::{Reached, reached_by};
 use crate::table::StopTable;
-use crate::watching::{WordsBefore, changed_watch, note_words};
+use crate::watching::{WordsBefore, may_change_watch, note_words, watch_after_move};
 use debug_answers::Answer;
 use debug_traits::{RecordedMachine, StepEnd};
 use undo_log::Undone;
@@ -95,7 +95,9 @@ fn step_forward<'a, M: RecordedMachine>(
         StepEnd::Done => {
             let at = reached_by(machine);
             let has_ended = at.line.is_none();
-            after_move(machine, stops, before, at, goal, has_ended, Answer::Here)
+            let may_change = may_change_watch(machine, stops, before);
+            let watch = watch_after_move(machine, stops, before, may_change);
+            after_move(stops, watch, at, goal, has_ended, Answer::Here)
         }
     }
 }
@@ -118,49 +120,50 @@ fn step_backward<'a, M: RecordedMachine>(
     ensures moves { 0 < steps_in (M.history machine.old).past → TakesBack M.moves M.history machine.old machine.new }
     ensures kept { IfGoesOn result (0 < steps_in (M.history machine.new).past) }
 {
-    take_step_back(machine);
+    let may_change = take_step_back(machine, stops, before);
     let at = reached_by(machine);
     let none_kept = machine.kept_steps() == 0;
-    after_move(
-        machine,
-        stops,
-        before,
-        at,
-        goal,
-        none_kept,
-        Answer::HistoryEnd,
-    )
+    let watch = watch_after_move(machine, stops, before, may_change);
+    after_move(stops, watch, at, goal, none_kept, Answer::HistoryEnd)
 }
 
-/// Takes back the values that were set since the last step, and that step.
-fn take_step_back<M: RecordedMachine>(machine: &mut M)
-    ensures back { (s : Setting) (d : Debugger) → M.stands machine.old s (bare d) → 0 < kept_steps d → M.stands machine.new s (bare (stepped_back d)) }
-    ensures moves { 0 < steps_in (M.history machine.old).past → TakesBack M.moves M.history machine.old machine.new }
-{
-    while let Ok(Undone::Poke) = machine.undo() {}
-}
-
-/// What ends a command after a move that led there; `last` does where there is no other move. A changed watch ends it, so
-/// where the command goes on, what was noted is what the watches show now.
-fn after_move<'a, M: RecordedMachine>(
-    machine: &M,
+/// Takes back the values that were set since the last step, and that step, and answers whether one of these events may have changed
+/// what a watch shows. Only the machine before an event is taken back can tell.
+fn take_step_back<M: RecordedMachine>(
+    machine: &mut M,
     stops: &StopTable,
     before: &WordsBefore,
+) -> bool
+    ensures back { (s : Setting) (d : Debugger) → M.stands machine.old s (bare d) → 0 < kept_steps d → M.stands machine.new s (bare (stepped_back d)) }
+    ensures watches { result ≡ false → (s : Setting) (d : Debugger) → M.stands machine.old s (bare d) → AreStops s stops.now.items d.stops → 0 < kept_steps d
+        → noted before.now.items ≡ watch_words (now s d) d.stops → watch_words (now s d) d.stops ≡ watch_words (now s (stepped_back d)) d.stops }
+    ensures moves { 0 < steps_in (M.history machine.old).past → TakesBack M.moves M.history machine.old machine.new }
+{
+    let mut may_change = may_change_watch(machine, stops, before);
+    while let Ok(Undone::Poke) = machine.undo() {
+        may_change |= may_change_watch(machine, stops, before);
+    }
+    may_change
+}
+
+/// What ends a command after a move that led there, and changed what this watch shows, if any; `last` does where there is no other
+/// move.
+fn after_move<'a>(
+    stops: &StopTable,
+    watch: Option<u32>,
     at: Reached,
     goal: Goal,
     no_move: bool,
     last: Answer<'a>,
 ) -> AfterMove<'a>
-    ensures means { (s : Setting) (d : Debugger) (old : State) (meant : model.Answer) → M.stands machine.now s (bare d) → AreStops s stops.now.items d.stops
-        → noted before.now.items ≡ watch_words old d.stops → IsReached s d at → Means s d last.entry meant
+    ensures means { (s : Setting) (d : Debugger) (old : State) (meant : model.Answer) → AreStops s stops.now.items d.stops
+        → watch ≡ first_stop (differs old (now s d)) d.stops → IsReached s d at → Means s d last.entry meant
         → MeansAfter s d result (after_move s.program (goal_view goal) old (now s d) d.stops no_move meant) }
-    ensures noted { (s : Setting) (d : Debugger) (old : State) → M.stands machine.now s (bare d) → AreStops s stops.now.items d.stops
-        → noted before.now.items ≡ watch_words old d.stops → IfGoesOn result (noted before.now.items ≡ watch_words (now s d) d.stops) }
     ensures plain { is_refused last.entry ≡ false → IsPlainEnd result }
     ensures more { IfGoesOn result (no_move ≡ false) }
+    ensures unchanged { IfGoesOn result (watch ≡ None) }
 {
     let breakpoint = stops.breakpoint_on(at.line);
-    let watch = changed_watch(machine, stops, before);
     end_or_go_on(goal.towards(at.depth), breakpoint, watch, no_move, last)
 }
 

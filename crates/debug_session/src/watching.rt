@@ -1,10 +1,10 @@
 //! What watches show, before the moves of a command and after each of them.
-ghost use Rattle.std.specs.Prelude.{◌≡◌, ℕ, ◌≤◌, ◌∷◌, List, drop, slice_index};
+ghost use Rattle.std.specs.Prelude.{◌≡◌, ℕ, ◌≤◌, ◌∷◌, false, List, drop, slice_index};
 ghost use Rattle.gang_model.specs.Source.Names.{same_text};
 ghost use Rattle.gang_model.specs.Types.Tree.{Variable};
 ghost use Rattle.gang_model.specs.Running.State.{State};
 ghost use Rattle.gang_model.specs.Debugger.Debugger as model;
-ghost use Rattle.gang_model.specs.Debugger.Debugger.{Debugger, Setting, differs, first_stop, now, shown_words, target_words};
+ghost use Rattle.gang_model.specs.Debugger.Debugger.{Debugger, Setting, differs, first_stop, now, shown_words, taken_back, target_words};
 ghost use Rattle.debug_answers.specs.Meanings.{AreStops, IsWatch};
 ghost use Rattle.debug_traits.specs.Machines.{IsShown};
 ghost use Rattle.debug_session.specs.Moves.{noted, watch_words};
@@ -102,6 +102,37 @@ pub(crate) fn changed_watch<M: RecordedMachine>(
         }
     }
     None
+}
+
+/// The same after a move, which may have changed what a watch shows or not.
+pub(crate) fn watch_after_move<M: RecordedMachine>(
+    machine: &M,
+    stops: &StopTable,
+    before: &WordsBefore,
+    may_change: bool,
+) -> Option<u32>
+    ensures { (s : Setting) (d : Debugger) (old : State) (meant : List (ℕ × model.Stop)) → M.stands machine.now s (bare d) → AreStops s stops.now.items meant
+        → noted before.now.items ≡ watch_words old meant → (may_change ≡ false → watch_words old meant ≡ watch_words (now s d) meant)
+        → result ≡ first_stop (differs old (now s d)) meant }
+{
+    if may_change {
+        changed_watch(machine, stops, before)
+    } else {
+        None
+    }
+}
+
+/// Whether the newest event may have changed what a watch shows. There are as many watches as words were noted of.
+pub(crate) fn may_change_watch<M: RecordedMachine>(
+    machine: &M,
+    stops: &StopTable,
+    before: &WordsBefore,
+) -> bool
+    ensures { result ≡ false → (s : Setting) (d : Debugger) (old : State) (meant : List (ℕ × model.Stop)) → M.stands machine.now s (bare d)
+        → AreStops s stops.now.items meant → noted before.now.items ≡ watch_words old meant
+        → watch_words (now s (taken_back d)) meant ≡ watch_words (now s d) meant }
+{
+    !before.is_empty() && machine.may_have_set_file()
 }
 
 /// The words that were noted at a place.

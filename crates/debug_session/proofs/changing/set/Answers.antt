@@ -1,9 +1,9 @@
-use Rattle.std.proofs.Common.{◌≡◌, sym, subst, ap, ◌∙◌, refl, false, None}
+use Rattle.std.proofs.Common.{◌≡◌, sym, subst, ap, ◌∙◌, refl}
 use Rattle.std.proofs.lemmas.Int.{to_z-of_z}
 use mir.Syntax.{w128}
 use Rattle.gang_types.specs.Values.{wrapped}
 use Rattle.gang_model.specs.Debugger.Events.{Poke}
-use Rattle.gang_model.specs.Debugger.Debugger.{DoSet, NoSuchName, Shows, do_set, found, moved, now, poked_by, reply, unless_refused}
+use Rattle.gang_model.specs.Debugger.Debugger.{DoSet, NoSuchName, Shows, do_set, moved, poked_by, reply, unless_refused}
 use Rattle.debug_answers.specs.declared.answer.Answer.TheVariants as answer
 use Rattle.debug_answers.specs.Meanings.{refusal_view}
 use Rattle.debug_commands.specs.Views.{target_view}

@@ -1,9 +1,9 @@
-use Rattle.std.proofs.Common.{◌≡◌, sym, subst, ap, ◌∙◌, refl, false, None}
+use Rattle.std.proofs.Common.{◌≡◌, sym, subst, ap, ◌∙◌, refl}
 use Rattle.std.proofs.lemmas.Int.{to_z-of_z}
 use mir.Syntax.{w128}
 use Rattle.gang_types.specs.Values.{wrapped}
 use Rattle.gang_model.specs.Debugger.Events.{InFrame, Poke}
-use Rattle.gang_model.specs.Debugger.Debugger.{DoSetIn, NoSuchName, Silent, do_set_in, found_at, moved, now, poked_by, reply, unless_refused}
+use Rattle.gang_model.specs.Debugger.Debugger.{DoSetIn, NoSuchName, Silent, do_set_in, moved, poked_by, reply, unless_refused}
 use Rattle.debug_answers.specs.declared.answer.Answer.TheVariants as answer
 use Rattle.debug_answers.specs.Meanings.{refusal_view}
 use Rattle.debug_commands.specs.Views.{target_view}
