@@ -83,6 +83,18 @@ no_frame : missing (codes "evaluate") (in_frame null) ≡ None
 unfolding serde_json_on_literals
 no_frame = refl
 
+-- a variable that is to be watched: by a reference that is a text, and by its name alone
+abbrev watched : Data → Data
+watched reference = given (object (member (codes "name") (string (codes "x")) (member (codes "variablesReference") reference no_members)))
+
+a_text_for_a_reference : missing (codes "dataBreakpointInfo") (watched (string (codes "21"))) ≡ Some (codes "variablesReference")
+unfolding serde_json_on_literals
+a_text_for_a_reference = refl
+
+no_reference : missing (codes "dataBreakpointInfo") (watched null) ≡ None
+unfolding serde_json_on_literals
+no_reference = refl
+
 -- a width that is a text, and one that is left out
 a_text_for_a_width : missing (codes "launch") (given (object (member (codes "program") (string (codes "a")) (member (codes "width") (string (codes "8")) no_members)))) ≡ Some (codes "width")
 unfolding serde_json_on_literals

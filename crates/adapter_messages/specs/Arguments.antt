@@ -297,7 +297,8 @@ IsRequestNamed name.GotoTargets message (request.GotoTargets source line) = (tex
 IsRequestNamed name.Goto message (request.Goto line way) = time_in message ≡ Some (line, way)
 IsRequestNamed name.SetExceptionBreakpoints message request.SetExceptionBreakpoints = Unit {0}
 IsRequestNamed name.ExceptionInfo message request.ExceptionInfo = Unit {0}
-IsRequestNamed name.DataBreakpointInfo message (request.DataBreakpointInfo text) = unmarked_at (codes "/arguments/name") message ≡ Some text.now
+IsRequestNamed name.DataBreakpointInfo message (request.DataBreakpointInfo reference frame text) =
+    (number_at (codes "/arguments/variablesReference") message ≡ reference) × (number_at (codes "/arguments/frameId") message ≡ frame) × (unmarked_at (codes "/arguments/name") message ≡ Some text.now)
 IsRequestNamed name.SetDataBreakpoints message (request.SetDataBreakpoints targets) = map asked_watch targets.items ≡ each_asked watch_in (breakpoints_of message)
 IsRequestNamed name.ConfigurationDone message request.ConfigurationDone = Unit {0}
 IsRequestNamed name.Threads message request.Threads = Unit {0}

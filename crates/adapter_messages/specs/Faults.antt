@@ -41,13 +41,18 @@ stack_options message =
 abbrev pub frame_options : Data → List (Bytes × Bool)
 frame_options message = (codes "frameId", is_right (number_at (codes "/arguments/frameId") message) (pointer (codes "/arguments/frameId") message)) ∷ []
 
+-- the variables among which something is looked for, and else the frame, both of which may be left out too
+abbrev pub container_options : Data → List (Bytes × Bool)
+container_options message =
+    (codes "variablesReference", is_right (number_at (codes "/arguments/variablesReference") message) (pointer (codes "/arguments/variablesReference") message)) ∷ frame_options message
+
 -- the arguments that a request of a name needs, in their order, and whether a message has each of the right type
 abbrev pub needs : Name → Data → List (Bytes × Bool)
 needs name.Launch message = (codes "program", is_some (text_at (codes "/arguments/program") message)) ∷ launch_options message
 needs name.BreakpointLocations message = (codes "line", is_some (line_at (codes "/arguments/line") message)) ∷ []
 needs name.GotoTargets message = (codes "line", is_some (line_at (codes "/arguments/line") message)) ∷ []
 needs name.Goto message = (codes "targetId", is_some (time_in message)) ∷ []
-needs name.DataBreakpointInfo message = (codes "name", is_some (text_at (codes "/arguments/name") message)) ∷ []
+needs name.DataBreakpointInfo message = (codes "name", is_some (text_at (codes "/arguments/name") message)) ∷ container_options message
 needs name.StackTrace message = stack_options message
 needs name.Scopes message = (codes "frameId", is_some (number_at (codes "/arguments/frameId") message)) ∷ []
 needs name.Variables message = (codes "variablesReference", is_some (number_at (codes "/arguments/variablesReference") message)) ∷ page_options message

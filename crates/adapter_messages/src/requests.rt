@@ -3,7 +3,7 @@ ghost use Rattle.std.specs.Prelude.{◌≡◌, IfErr, IfNone, IfOk, IfSome, None
 ghost use Rattle.serde_json.specs.Find.{as_number, as_str, as_u64, get, pointer};
 ghost use Rattle.serde_json.specs.View.{view};
 ghost use Rattle.adapter_messages.specs.Arguments.{IsRequest, IsRequestNamed, flag_at, head_of, is_request, is_right, number_at, text_at, text_of, unmarked};
-ghost use Rattle.adapter_messages.specs.Faults.{IsRefused, IsRefusedNamed, NamesArgument, first_missing, frame_options, launch_options, missing, needs, page_options, stack_options};
+ghost use Rattle.adapter_messages.specs.Faults.{IsRefused, IsRefusedNamed, NamesArgument, container_options, first_missing, frame_options, launch_options, missing, needs, page_options, stack_options};
 ghost use Rattle.adapter_messages.specs.declared.requests.RequestFault.TheVariants.{Memory};
 
 use crate::arguments::{
@@ -265,9 +265,23 @@ fn read_information(message: &Value) -> Result<Request<'_>, RequestFault>
     ensures refused { IfErr result (IsRefusedNamed Name.DataBreakpointInfo (view message.now)) }
 {
     let name = needed(text_at(message, "/arguments/name"), "name")?;
+    if let Some(argument) = wrong_container(message) {
+        return Err(RequestFault::Argument(argument));
+    }
     Ok(Request::DataBreakpointInfo {
+        reference: number_at(message, "/arguments/variablesReference"),
+        frame: number_at(message, "/arguments/frameId"),
         name: unmarked(name),
     })
+}
+
+/// The first of the arguments for the variables among which something is looked for, or for the frame, which is there by a wrong type.
+fn wrong_container(message: &Value) -> Option<&'static str>
+    ensures { text_of result ≡ first_missing (container_options (view message.now)) }
+{
+    let wrong = wrong_frame(message);
+    let reference = is_right_number(message, "/arguments/variablesReference");
+    wrong_or(reference, "variablesReference", wrong)
 }
 
 /// The argument for a frame, where it is there by a wrong type.

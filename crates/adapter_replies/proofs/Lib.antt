@@ -15,3 +15,4 @@ pub mod ToldVariables
 pub mod TopFrame
 pub mod WorkedTargets
 pub mod WorkedThreads
+pub mod WorkedWatches

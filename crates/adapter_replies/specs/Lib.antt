@@ -19,3 +19,4 @@ pub mod Threads
 pub mod Told
 pub mod Variables
 pub mod Waiting
+pub mod Watchable

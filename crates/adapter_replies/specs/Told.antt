@@ -26,7 +26,7 @@ use Rattle.adapter_requests.specs.declared.request.Context.TheVariants.{Console,
 use Rattle.adapter_requests.specs.declared.request.Request.{Request}
 use Rattle.adapter_requests.specs.declared.request.Request.TheVariants as request
 use Rattle.adapter_replies.specs.Exceptions.{no_fault}
-use Rattle.adapter_replies.specs.Breakpoints.{IsWatchableTold, is_watchable, told_breakpoint, told_function, told_watch}
+use Rattle.adapter_replies.specs.Breakpoints.{IsWatchableTold, told_breakpoint, told_function, told_watch}
 use Rattle.adapter_replies.specs.Columns.{front}
 use Rattle.adapter_replies.specs.Completions.{ToldCompletion, completion_view, completions, frame_or}
 use Rattle.adapter_replies.specs.Asking.{Asking, asking_of}
@@ -47,6 +47,7 @@ use Rattle.adapter_replies.specs.Shown.{shown_text}
 use Rattle.adapter_replies.specs.Stopped.{goto_reason, reason_of}
 use Rattle.adapter_replies.specs.Targets.{set_by, target_in}
 use Rattle.adapter_replies.specs.Variables.{ToldVariable, told_each, told_now, values, variable_view, words_at}
+use Rattle.adapter_replies.specs.Watchable.{is_watchable_of}
 
 -- the frames of a reply, and how many it says there are
 abbrev pub told_frames : Reply → Option (List ToldFrame × ℕ)
@@ -267,7 +268,7 @@ IsLookTold s d request.Threads told = AreThreadsTold told
 IsLookTold s d (request.StackTrace thread start levels) told = AreFramesTold start levels (all_frames s.program (now s d).frames) told
 IsLookTold s d (request.Scopes frame) told = AreScopesTold (is_frame (depth (now s d)) frame) frame told
 IsLookTold s d (request.Variables reference page is_hexadecimal) told = AreVariablesTold (told_now (form_if is_hexadecimal) page s d reference) told
-IsLookTold s d (request.DataBreakpointInfo name) told = IsWatchableTold (is_watchable s d name.now) name.now told
+IsLookTold s d (request.DataBreakpointInfo reference frame name) told = IsWatchableTold (is_watchable_of s d reference frame name.now) name.now told
 IsLookTold s d (request.Completions text column frame) told = AreCompletionsToldIn s d (frame_or (depth (now s d)) frame) (front text.now column) told
 IsLookTold s d other told = Unit {0}
 

@@ -7,11 +7,11 @@ ghost use Rattle.debug_answers.specs.Meanings.{AreStops, IsStop};
 ghost use Rattle.debug_commands.specs.Views.{target_view};
 ghost use Rattle.gang_model.specs.Source.Names.{same_text};
 ghost use Rattle.adapter_requests.specs.declared.reply.BreakpointFault.TheVariants as fault;
-ghost use Rattle.adapter_replies.specs.Breakpoints.{IsWatchableTold, breakpoint_of, can_watch, has_name, has_target, is_part, is_watchable, no_watch, on_function, same_index, standing, told_breakpoint, told_function, told_watch, watch_number, watches_target};
+ghost use Rattle.adapter_replies.specs.Breakpoints.{breakpoint_of, can_watch, has_name, has_target, is_part, no_watch, on_function, same_index, standing, told_breakpoint, told_function, told_watch, watch_number, watches_target};
 
 use crate::parts::has_parts;
 use adapter_requests::{
-    Breakpoint, BreakpointFault, DataBreakpoint, FunctionBreakpoint, LineBreakpoint, Reply,
+    Breakpoint, BreakpointFault, DataBreakpoint, FunctionBreakpoint, LineBreakpoint,
 };
 use debug_answers::{NumberedStop, Stop};
 use debug_commands::{Command, Target, read_command};
@@ -238,22 +238,6 @@ fn is_same_index(one: Option<u32>, other: Option<u32>) -> bool
         (None, None) => true,
         (Some(one), Some(other)) => one == other,
         _ => false,
-    }
-}
-
-/// Whether a variable can be watched: a scalar of the file, a lane of one or an element.
-pub(crate) fn watchable<M: RecordedMachine>(
-    alloc: Global,
-    machine: &M,
-    name: &str,
-) -> Result<Reply, AllocError>
-    ensures { (s : Setting) (d : Debugger) → M.stands machine.now s d → IfOk result (IsWatchableTold (is_watchable s d name.now) name.now) }
-{
-    let line = format!(in alloc; "watch {name}")?;
-    if can_watch(machine, line.as_bytes()) {
-        Ok(Reply::Watchable(String::from_str(alloc, name)?))
-    } else {
-        Ok(Reply::NotWatchable)
     }
 }
 

@@ -26,6 +26,7 @@ mod targets;
 mod texts;
 mod threads;
 mod waiting;
+mod watchable;
 
 pub use breakpoints::can_watch;
 pub use children::{OpenedExpression, expression_variables, opened_expression, with_reference};

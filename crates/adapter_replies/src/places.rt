@@ -89,7 +89,7 @@ pub(crate) fn is_frame(top: usize, depth: usize) -> bool
 }
 
 /// What a reference stands for.
-fn place_of(reference: u64) -> Place
+pub(crate) fn place_of(reference: u64) -> Place
     ensures { result ≡ place_of reference }
 {
     if reference > GREATEST {

@@ -13,7 +13,7 @@ ghost use Rattle.adapter_replies.specs.declared.places.Place.TheVariants as plac
 ghost use Rattle.adapter_replies.specs.declared.places.Scope.TheVariants.{Arguments, Locals};
 ghost use Rattle.adapter_replies.specs.Told.{AreBreakpointsTold, AreCompletionsToldIn, AreFramesTold, AreScopesTold, AreThreadsTold, AreVariablesTold, IsAnswered, IsEvaluateTold, IsGotoTold, IsLookTold, IsMoveTold, IsToldOf, IsValueAnswered, MeansLast, fixed_reply, is_ended, refusal_text, shown_values, told_stop};
 
-use crate::breakpoints::{breakpoints, functions, watchable, watches};
+use crate::breakpoints::{breakpoints, functions, watches};
 use crate::columns::front_of;
 use crate::completions::completions;
 use crate::evaluating::{Line, done, looked_up};
@@ -26,6 +26,7 @@ use crate::scopes::variables;
 use crate::setting::{set_expression, set_variable};
 use crate::stops::{goto_reason, stop_of};
 use crate::texts::answer_text;
+use crate::watchable::watchable;
 use adapter_requests::{Page, Reply, Request, Scopes, Stop, StopReason, Thread};
 use debug_answers::{Answer, NumberedStop, Refusal};
 use debug_traits::{FramedMachine, RecordedMachine};
@@ -226,7 +227,11 @@ fn looked<M: ExpressionMachine>(
             column,
             frame,
         } => completed(alloc, machine, *frame, text.as_bytes(), *column),
-        Request::DataBreakpointInfo { name } => watchable(alloc, machine, name),
+        Request::DataBreakpointInfo {
+            reference,
+            frame,
+            name,
+        } => watchable(alloc, machine, *reference, *frame, name),
         _ => Ok(Reply::Done),
     }
 }

@@ -128,8 +128,11 @@ pub enum Request<'a> {
     SetExceptionBreakpoints,
     /// Which fault the last stop was at.
     ExceptionInfo,
-    /// Whether a variable can be watched: one of the variables of this reference, or any where there is none.
+    /// Whether a variable can be watched: one of the variables of this reference. Where there is none, or 0, what the name means as an
+    /// expression in the frame of this number; in the file where there is no frame either.
     DataBreakpointInfo {
+        reference: Option<u64>,
+        frame: Option<u64>,
         name: &'a str,
     },
     /// The watches, in place of those that there were: each with its target, or why it is none.
