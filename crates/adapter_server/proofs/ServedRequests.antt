@@ -87,7 +87,7 @@ module _ {M : Type 0} (stands : M → Setting → Debugger → Type 0) where
     alone (request.Goto line way) run = refl
     alone request.SetExceptionBreakpoints run = refl
     alone request.ExceptionInfo run = refl
-    alone (request.DataBreakpointInfo name) run = refl
+    alone (request.DataBreakpointInfo reference frame name) run = refl
     alone (request.SetDataBreakpoints targets) run = refl
     alone request.ConfigurationDone run = inl refl
     alone request.Threads run = refl

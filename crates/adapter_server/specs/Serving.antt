@@ -26,7 +26,7 @@ use Rattle.adapter_session.specs.declared.answering.Answered.{Answered}
 use Rattle.adapter_session.specs.declared.beginning.Beginning.{Beginning}
 use Rattle.adapter_session.specs.declared.terms.Terms.{Terms as GivenTerms}
 use Rattle.adapter_session.specs.Done.{DoesRequest}
-use Rattle.adapter_session.specs.Restored.{numbers, restored, stop_commands, terms_anew}
+use Rattle.adapter_session.specs.Restored.{CanKeepNumbers, numbers, restored, stop_commands, terms_anew}
 use Rattle.adapter_session.specs.Terms.{Terms, terms_of}
 use Rattle.adapter_server.specs.declared.connection.Connection.{Connection}
 use Rattle.adapter_server.specs.declared.launching.LaunchMessage.{LaunchMessage}
@@ -168,9 +168,12 @@ pub record Serves {M : Type 0} (stands : M → Setting → Debugger → Type 0) 
 
 -- a session has the breakpoints and watches of another one made anew in its own program, with the conditions and counts that were asked for
 pub record Restores {M : Type 0} (stands : M → Setting → Debugger → Type 0) (other : Session M) (old new : Run M) : Type 0 where
-  pub done : (s t : Setting) (d e : Debugger) → StandsFor stands other s d → StandsFor stands old.session t e → HasDone stands t (stop_commands t.program old.terms.functions d.stops) e new.session
+  pub done : (s t : Setting) (d e : Debugger) → StandsFor stands other s d → StandsFor stands old.session t e → HasDone stands t (stop_commands t old.terms.functions d.stops e) e new.session
   pub terms : (s t : Setting) (d e f : Debugger) → StandsFor stands other s d → StandsFor stands old.session t e → StandsFor stands new.session t f
       → new.terms ≡ terms_anew old.terms (restored t old.terms.functions d.stops e []) (numbers f.stops)
+  -- each that was made has the number that it had
+  pub keep_numbers : (s t : Setting) (d e f : Debugger) → StandsFor stands other s d → StandsFor stands old.session t e → StandsFor stands new.session t f
+      → CanKeepNumbers t e d.stops → numbers f.stops ≡ restored t old.terms.functions d.stops e []
 
 -- the breakpoints and watches of another session were made anew, the run may have begun, and then messages were served
 pub record ServesAnew {M : Type 0} (stands : M → Setting → Debugger → Type 0) (setup : Setup) (old_unread new_unread : Option Bytes) (other : Session M) (old new : Run M) : Type 0 where

@@ -3,9 +3,11 @@ pub mod Counted
 mod DoneLines
 mod FunctionLists
 mod GoingTo
+mod KeptNumbers
 mod LogLists
 mod MadeAnew
 pub mod NothingLogged
 pub mod Rows
 pub mod StopNumbers
 mod TermLists
+pub mod WorkedRestarts

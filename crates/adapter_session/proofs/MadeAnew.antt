@@ -1,5 +1,5 @@
 -- Breakpoints and watches that are made anew, one after another.
-use Rattle.std.proofs.Common.{◌≡◌, refl, ap, sym, subst, ◌∙◌, ℕ, zero, suc, ◌+◌, ◌<◌, ◌≤◌, Bool, List, [], ◌∷◌, ◌++◌, length, drop, get_or, add-one, Option, Some, None, inl, arith}
+use Rattle.std.proofs.Common.{◌≡◌, refl, ap, sym, subst, ◌∙◌, ℕ, zero, suc, ◌+◌, ◌-◌, ◌<◌, ◌≤◌, Bool, List, [], ◌∷◌, ◌++◌, length, drop, get_or, add-one, Option, Some, None, inl, arith}
 use Rattle.std.specs.Prelude.{option_map}
 use Rattle.std.proofs.lemmas.List.{drop_all}
 use Rattle.gang_model.specs.Debugger.Debugger as model
@@ -12,12 +12,12 @@ use Rattle.debug_answers.specs.declared.stops.NumberedStop.{NumberedStop}
 use Rattle.debug_answers.specs.Meanings.{AreStops, IsStop, Means}
 use Rattle.debug_session.specs.declared.session.Session.{Session}
 use Rattle.debug_session.specs.Sessions.{RepliesOn, Sets, StandsFor}
-use Rattle.command_lists.specs.Lists.{HasDone, Leads}
+use Rattle.command_lists.specs.Lists.{Leads}
 use Rattle.function_lines.specs.Lines.{function_line}
-use Rattle.adapter_session.specs.Requested.{command_list}
-use Rattle.adapter_session.specs.Restored.{command_in, given_made, is_made, made_in, reply_to, restored, stop_commands, with_made}
+use Rattle.adapter_session.specs.Restored.{command_in, commands_anew, commands_from, given_made, is_made, led, made_in, reply_anew, reply_to, restored, restored_from, stop_commands, used, used_up, with_made}
 use Rattle.adapter_session.specs.Terms.{FunctionStop, name_of}
 use Rattle.adapter_session.proofs.GoingTo.{one_reply}
+use Rattle.adapter_session.proofs.KeptNumbers.{led_behind}
 
 -- ---- one command
 
@@ -91,59 +91,93 @@ as_many s (x ∷ xs) (m ∷ ms) (number, is, others) = ap suc (as_many s xs ms o
 none_left : (s : Setting) (given : List NumberedStop) (meant : List (ℕ × Stop)) (i : ℕ) → AreStops s given meant → length given ≤ i → drop i meant ≡ []
 none_left s given meant i are past = let many = as_many s given meant are in drop_all i meant (omega (arith, many, past))
 
--- where a command that may be there leads, and others from there
-leads_behind : (s : Setting) (command : Option Command) (commands : List Command) (d e : Debugger) → Leads s commands (reply_to s command d).next e → Leads s (command_list command ++ commands) d e
-leads_behind s None commands d e leads = leads
-leads_behind s (Some command) commands d e leads = (do_command s command d, inl (inl refl), leads)
+-- where commands lead, of which each is replied to as the definition has it
+pub leads_all : (s : Setting) (commands : List Command) (d : Debugger) → Leads s commands d (led s commands d)
+leads_all s [] d = refl
+leads_all s (command ∷ commands) d = (do_command s command d, inl (inl refl), leads_all s commands (do_command s command d).next)
 
-module _ {M : Type 0} (stands : M → Setting → Debugger → Type 0) (s : Setting) (functions : List FunctionStop) where
-  -- some of the stops were made, and these are left: where the session stands, where it leads, and which of them were made
-  pub record Restoring (stops : List (ℕ × Stop)) (d : Debugger) (left : List (ℕ × Stop)) (made : List ℕ) (session : Session M) : Type 0 where
+module _ {M : Type 0} (stands : M → Setting → Debugger → Type 0) (s : Setting) where
+  -- some numbers were used up, and those from one on are left: where the session stands, and where it leads
+  pub record Using (next number : ℕ) (d : Debugger) (left : ℕ) (session : Session M) : Type 0 where
     pub at : Debugger
     pub there : StandsFor stands session s at
-    pub leads : (e : Debugger) → Leads s (stop_commands s.program functions left) at e → Leads s (stop_commands s.program functions stops) d e
-    pub made_are : restored s functions left at made ≡ restored s functions stops d []
+    pub leads : led s (used_up (number - left) left) at ≡ led s (used_up (number - next) next) d
 
-  pub restoring : (stops : List (ℕ × Stop)) (d : Debugger) (session : Session M) → StandsFor stands session s d → Restoring stops d stops [] session
-  restoring stops d session there = record { at = d; there = there; leads = λ e leads. leads; made_are = refl }
+  pub using_none : (next number : ℕ) (d : Debugger) (session : Session M) → StandsFor stands session s d → Using next number d next session
+  using_none next number d session there = record { at = d; there = there; leads = refl }
 
-  abbrev pub reply_at : Debugger → ℕ × Stop → Reply
-  reply_at at entry = reply_to s (command_in s.program functions entry) at
+  pub uses_more : (next number : ℕ) (d : Debugger) (left : ℕ) (old new : Session M) → left < number → (before : Using next number d left old)
+      → ((e : Debugger) → StandsFor stands old s e → StandsFor stands new s (led s (used left) e)) → Using next number d (left + 1) new
+  uses_more next number d left old new less before uses =
+      let many : number - left ≡ suc (number - suc left) = omega (arith, less) in
+      subst (λ n. Using next number d n new) (sym (add-one left))
+      (record {
+        at = led s (used left) before.at;
+        there = uses before.at before.there;
+        leads =
+            sym (led_behind s (used left) (used_up (number - suc left) (suc left)) before.at)
+            ∙ sym (ap (λ n. led s (used_up n left) before.at) many)
+            ∙ before.leads;
+      })
 
-  makes_one : (stops : List (ℕ × Stop)) (d : Debugger) (left others : List (ℕ × Stop)) (entry : ℕ × Stop) (made all : List ℕ) (old new : Session M) → left ≡ entry ∷ others → (before : Restoring stops d left made old)
-      → StandsFor stands new s (reply_at before.at entry).next → all ≡ with_made (is_made (reply_at before.at entry).answer) entry.0 made → Restoring stops d others all new
-  makes_one stops d left others entry made all old new is before there notes = record {
-    at = (reply_at before.at entry).next;
-    there = there;
-    leads = λ e leads.
-        before.leads e (subst (λ list. Leads s (stop_commands s.program functions list) before.at e) (sym is) (leads_behind s (command_in s.program functions entry) (stop_commands s.program functions others) before.at e leads));
-    made_are =
-        ap (restored s functions others (reply_at before.at entry).next) notes
-        ∙ sym (ap (λ list. restored s functions list before.at made) is)
-        ∙ before.made_are;
-  }
+  pub uses_all : (next number : ℕ) (d : Debugger) (left : ℕ) (session : Session M) → number ≤ left → Using next number d left session → StandsFor stands session s (led s (used_up (number - next) next) d)
+  uses_all next number d left session past before =
+      let none : number - left ≡ 0 = omega (arith, past) in
+      subst (λ e. StandsFor stands session s e) (sym (ap (λ n. led s (used_up n left) before.at) none) ∙ before.leads) before.there
+
+module _ {M : Type 0} (stands : M → Setting → Debugger → Type 0) (s : Setting) (functions : List FunctionStop) where
+  -- some of the stops were made, and these are left, where a number is next: where the session stands, where it leads, and which of them were made
+  pub record Restoring (stops : List (ℕ × Stop)) (d : Debugger) (next : ℕ) (left : List (ℕ × Stop)) (made : List ℕ) (session : Session M) : Type 0 where
+    pub at : Debugger
+    pub there : StandsFor stands session s at
+    pub leads : led s (commands_from s functions next left at) at ≡ led s (stop_commands s functions stops d) d
+    pub made_are : restored_from s functions next left at made ≡ restored s functions stops d []
+
+  pub restoring : (stops : List (ℕ × Stop)) (d : Debugger) (session : Session M) → StandsFor stands session s d → Restoring stops d 1 stops [] session
+  restoring stops d session there = record { at = d; there = there; leads = refl; made_are = refl }
+
+  makes_one : (stops : List (ℕ × Stop)) (d : Debugger) (next : ℕ) (left others : List (ℕ × Stop)) (entry : ℕ × Stop) (made all : List ℕ) (old new : Session M) → left ≡ entry ∷ others → (before : Restoring stops d next left made old)
+      → StandsFor stands new s (led s (commands_anew s functions next entry before.at) before.at) → all ≡ with_made (is_made (reply_anew s functions next entry before.at).answer) entry.0 made
+      → Restoring stops d (suc entry.0) others all new
+  makes_one stops d next left others entry made all old new is before there notes =
+      let commands = commands_anew s functions next entry before.at in
+      let at = led s commands before.at in
+      record {
+        at = at;
+        there = there;
+        leads =
+            sym (led_behind s commands (commands_from s functions (suc entry.0) others at) before.at)
+            ∙ sym (ap (λ list. led s (commands_from s functions next list before.at) before.at) is)
+            ∙ before.leads;
+        made_are =
+            ap (restored_from s functions (suc entry.0) others at) notes
+            ∙ sym (ap (λ list. restored_from s functions next list before.at made) is)
+            ∙ before.made_are;
+      }
 
   -- one stop more was made, or could not be
-  pub makes_more : (r : Setting) (given : List NumberedStop) (stops : List (ℕ × Stop)) (i : ℕ) (default : NumberedStop) (d : Debugger) (made all : List ℕ) (is_one : Bool) (old new : Session M) → AreStops r given stops → i < length given
-      → (before : Restoring stops d (drop i stops) made old)
-      → ((entry : ℕ × Stop) → (get_or given i default).number ≡ entry.0 → IsStop r (get_or given i default).stop entry.1 → StandsFor stands new s (reply_at before.at entry).next)
-      → ((entry : ℕ × Stop) → (get_or given i default).number ≡ entry.0 → IsStop r (get_or given i default).stop entry.1 → is_one ≡ is_made (reply_at before.at entry).answer)
-      → all ≡ with_made is_one (get_or given i default).number made → Restoring stops d (drop (i + 1) stops) all new
-  makes_more r given stops i default d made all is_one old new are within before there whether notes =
+  pub makes_more : (r : Setting) (given : List NumberedStop) (stops : List (ℕ × Stop)) (i : ℕ) (default : NumberedStop) (d : Debugger) (next after : ℕ) (made all : List ℕ) (is_one : Bool) (old new : Session M) → AreStops r given stops → i < length given
+      → (before : Restoring stops d next (drop i stops) made old)
+      → ((entry : ℕ × Stop) → (get_or given i default).number ≡ entry.0 → IsStop r (get_or given i default).stop entry.1 → StandsFor stands new s (led s (commands_anew s functions next entry before.at) before.at))
+      → ((entry : ℕ × Stop) → (get_or given i default).number ≡ entry.0 → IsStop r (get_or given i default).stop entry.1 → is_one ≡ is_made (reply_anew s functions next entry before.at).answer)
+      → all ≡ with_made is_one (get_or given i default).number made → after ≡ (get_or given i default).number + 1 → Restoring stops d after (drop (i + 1) stops) all new
+  makes_more r given stops i default d next after made all is_one old new are within before there whether notes behind =
       let at = stop_at r given stops i default are within in
-      subst (λ n. Restoring stops d (drop n stops) all new) (sym (add-one i))
-      (makes_one stops d (drop i stops) (drop (suc i) stops) at.entry made all old new at.left before (there at.entry at.number at.is)
-      (notes ∙ ap (λ n. with_made is_one n made) at.number ∙ ap (λ b. with_made b at.entry.0 made) (whether at.entry at.number at.is)))
+      let after_is : after ≡ suc at.entry.0 = behind ∙ add-one (get_or given i default).number ∙ ap suc at.number in
+      subst (λ n. Restoring stops d n (drop (i + 1) stops) all new) (sym after_is)
+      (subst (λ n. Restoring stops d (suc at.entry.0) (drop n stops) all new) (sym (add-one i))
+      (makes_one stops d next (drop i stops) (drop (suc i) stops) at.entry made all old new at.left before (there at.entry at.number at.is)
+      (notes ∙ ap (λ n. with_made is_one n made) at.number ∙ ap (λ b. with_made b at.entry.0 made) (whether at.entry at.number at.is))))
 
   -- all were
-  pub makes_all : (r : Setting) (given : List NumberedStop) (stops : List (ℕ × Stop)) (i : ℕ) (d : Debugger) (made : List ℕ) (session : Session M) → AreStops r given stops → length given ≤ i → Restoring stops d (drop i stops) made session
-      → HasDone stands s (stop_commands s.program functions stops) d session
-  makes_all r given stops i d made session are past before =
-      let end = subst (λ left. Restoring stops d left made session) (none_left r given stops i are past) before in
-      record { after = end.at; leads = end.leads end.at refl; there = end.there }
+  pub makes_all : (r : Setting) (given : List NumberedStop) (stops : List (ℕ × Stop)) (i : ℕ) (d : Debugger) (next : ℕ) (made : List ℕ) (session : Session M) → AreStops r given stops → length given ≤ i → Restoring stops d next (drop i stops) made session
+      → StandsFor stands session s (led s (stop_commands s functions stops d) d)
+  makes_all r given stops i d next made session are past before =
+      let end = subst (λ left. Restoring stops d next left made session) (none_left r given stops i are past) before in
+      subst (λ e. StandsFor stands session s e) end.leads end.there
 
-  pub made_all : (r : Setting) (given : List NumberedStop) (stops : List (ℕ × Stop)) (i : ℕ) (d : Debugger) (made : List ℕ) (session : Session M) → AreStops r given stops → length given ≤ i → Restoring stops d (drop i stops) made session
+  pub made_all : (r : Setting) (given : List NumberedStop) (stops : List (ℕ × Stop)) (i : ℕ) (d : Debugger) (next : ℕ) (made : List ℕ) (session : Session M) → AreStops r given stops → length given ≤ i → Restoring stops d next (drop i stops) made session
       → made ≡ restored s functions stops d []
-  made_all r given stops i d made session are past before =
-      let end = subst (λ left. Restoring stops d left made session) (none_left r given stops i are past) before in
+  made_all r given stops i d next made session are past before =
+      let end = subst (λ left. Restoring stops d next left made session) (none_left r given stops i are past) before in
       end.made_are

@@ -16,12 +16,9 @@ use Rattle.adapter_session.specs.Changes.{staying}
 use Rattle.adapter_session.specs.Going.{going, is_at, reached}
 use Rattle.adapter_session.specs.Requested.{all_in_frame, break_at, commands_of, evaluated, has_frame, is_elsewhere, numbers_of, outer, outer_frame, set_lines, spelled, test_of}
 use Rattle.function_lines.specs.Lines.{function_line}
-use Rattle.adapter_session.specs.Restored.{made_in, stop_commands, with_made}
+use Rattle.adapter_session.specs.Restored.{made_in, with_made}
 use Rattle.adapter_session.specs.Terms.{FunctionStop, anew, carried_functions, carried_logs, changed, first_logged, name_of}
 use Rattle.adapter_session.specs.Typed.{meant_line, own_of}
-
-breakpoint_and_watch : (p : Program) (target : Target) (v : Variable) → stop_commands p [] ((2, Line 5) ∷ (4, Watch target v) ∷ []) ≡ DoBreak 5 ∷ DoWatch target ∷ []
-breakpoint_and_watch p target v = refl
 
 -- breakpoint 3 is that of `go`: it stands where the new program has this function, and nowhere where it has none
 abbrev go : List FunctionStop

@@ -1,40 +1,28 @@
-use Rattle.std.proofs.Common.{ap, sym, subst, ◌∙◌, Option, map}
-use Rattle.gang_model.specs.Debugger.Debugger.{Command, Reply}
-use Rattle.gang_model.specs.Types.Tree.{Program}
-use Rattle.debug_session.specs.Sessions.{StandsFor, bare}
-use Rattle.adapter_session.specs.Restored.{command_in, is_made, reply_to}
+use Rattle.std.proofs.Common.{ℕ, ◌-◌, Bool, sym, subst, map}
+use Rattle.gang_model.specs.Debugger.Debugger.{Debugger}
+use Rattle.debug_session.specs.Sessions.{StandsFor}
+use Rattle.adapter_session.specs.Restored.{is_made, led, reply_anew, unless_made, used_up}
 use Rattle.adapter_session.specs.Terms.{function_of}
-use Rattle.adapter_session.proofs.MadeAnew.{made_is, reply_is}
+use Rattle.adapter_session.proofs.KeptNumbers.{led_anew}
 use Rattle.adapter_session.proofs.restoring.make_anew.Goals as goal
 
-pub returns-in-Some-clause-there : goal.returns-in-Some-clause-there
-returns-in-Some-clause-there g c s t d e meant stands number is there =
+pub returns-clause-there : goal.returns-clause-there
+returns-clause-there g c s t d e meant stands number is there =
+    let machines = g.M.RecordedMachine.stands in
     let functions = map function_of c.args.functions.now in
-    let machine = subst (λ machine. g.M.RecordedMachine.stands machine t (bare e)) (sym c.machine.ensures) there.there in
-    let command = c.in-Some.ensures s d meant stands number is ∙ ap (λ (p : Program). command_in p functions meant) (sym (c.program-program.ensures t (bare e) machine)) in
-    let replies = c.do_command.ensures.replied t e there in
-    subst (λ (r : Reply). StandsFor g.M.RecordedMachine.stands c.do_command.new.self t r.next) (reply_is g.M.RecordedMachine.may_want t functions meant e _ replies.reply command replies.is_reply) replies.replied.there
+    let next = c.args.next in
+    let at = led t (used_up (meant.0 - next) next) e in
+    let reply = reply_anew t functions next meant e in
+    let ready = subst (λ (n : ℕ). StandsFor machines c.use_up.new.session t (led t (used_up (n - next) next) e)) number (c.use_up.ensures t e there) in
+    let made = c.make-is_made.ensures.there s t d at meant stands number is ready in
+    let whether = c.make-is_made.ensures.made s t d at meant stands number is ready in
+    let after = c.use_unless_made.ensures t reply.next made in
+    let there_by : ℕ → Bool → Type 0 = λ n b. StandsFor machines c.use_unless_made.new.session t (led t (unless_made b n) reply.next) in
+    subst (λ (e : Debugger). StandsFor machines c.use_unless_made.new.session t e) (sym (led_anew t functions next meant e))
+    (subst (λ (n : ℕ). there_by n (is_made reply.answer)) number (subst (λ (b : Bool). there_by c.args.entry.number b) whether after))
 
-pub returns-in-Some-clause-made : goal.returns-in-Some-clause-made
-returns-in-Some-clause-made g c s t d e meant stands number is there =
-    let functions = map function_of c.args.functions.now in
-    let machine = subst (λ machine. g.M.RecordedMachine.stands machine t (bare e)) (sym c.machine.ensures) there.there in
-    let command = c.in-Some.ensures s d meant stands number is ∙ ap (λ (p : Program). command_in p functions meant) (sym (c.program-program.ensures t (bare e) machine)) in
-    let replies = c.do_command.ensures.replied t e there in
-    c.is_made.ensures
-    ∙ made_is t replies.reply.next _ replies.reply.answer replies.replied.means
-    ∙ ap (λ (r : Reply). is_made r.answer) (reply_is g.M.RecordedMachine.may_want t functions meant e _ replies.reply command replies.is_reply)
-
-pub returns-in-None-clause-there : goal.returns-in-None-clause-there
-returns-in-None-clause-there g c s t d e meant stands number is there =
-    let functions = map function_of c.args.functions.now in
-    let machine = subst (λ machine. g.M.RecordedMachine.stands machine t (bare e)) (sym c.machine.ensures) there.there in
-    let command = c.in-None.ensures s d meant stands number is ∙ ap (λ (p : Program). command_in p functions meant) (sym (c.program-program.ensures t (bare e) machine)) in
-    subst (λ (o : Option Command). StandsFor g.M.RecordedMachine.stands c.args.session.now t (reply_to t o e).next) command there
-
-pub returns-in-None-clause-made : goal.returns-in-None-clause-made
-returns-in-None-clause-made g c s t d e meant stands number is there =
-    let functions = map function_of c.args.functions.now in
-    let machine = subst (λ machine. g.M.RecordedMachine.stands machine t (bare e)) (sym c.machine.ensures) there.there in
-    let command = c.in-None.ensures s d meant stands number is ∙ ap (λ (p : Program). command_in p functions meant) (sym (c.program-program.ensures t (bare e) machine)) in
-    ap (λ (o : Option Command). is_made (reply_to t o e).answer) command
+pub returns-clause-made : goal.returns-clause-made
+returns-clause-made g c s t d e meant stands number is there =
+    let next = c.args.next in
+    let ready = subst (λ (n : ℕ). StandsFor g.M.RecordedMachine.stands c.use_up.new.session t (led t (used_up (n - next) next) e)) number (c.use_up.ensures t e there) in
+    c.make-is_made.ensures.made s t d (led t (used_up (meant.0 - next) next) e) meant stands number is ready

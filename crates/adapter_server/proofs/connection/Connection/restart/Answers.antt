@@ -12,7 +12,7 @@ returns-in_err-reply g c =
     record {
       restored = made;
       begun = made;
-      restores = record { done = c.restore_stops.ensures.done; terms = c.restore_stops.ensures.terms };
+      restores = record { done = c.restore_stops.ensures.done; terms = c.restore_stops.ensures.terms; keep_numbers = c.restore_stops.ensures.numbers };
       begins = inl refl;
       serves = serves_nothing g.M.RecordedMachine.stands (setup_of c.args.launch.now) start (unread left c.reply.new.self) made (told left start (messages_of c.args.self.now) c.reply.new.self c.reply.ensures.messages (lets_nothing_go start));
     }
@@ -25,7 +25,7 @@ returns-in_default g c =
     record {
       restored = made;
       begun = made;
-      restores = record { done = c.restore_stops.ensures.done; terms = c.restore_stops.ensures.terms };
+      restores = record { done = c.restore_stops.ensures.done; terms = c.restore_stops.ensures.terms; keep_numbers = c.restore_stops.ensures.numbers };
       begins = inl refl;
       serves = serves_nothing g.M.RecordedMachine.stands (setup_of c.args.launch.now) start (unread left c.reply.new.self) made (told left start (messages_of c.args.self.now) c.reply.new.self c.reply.ensures.messages (lets_nothing_go start));
     }
@@ -39,7 +39,7 @@ returns-in_err-begin g c =
     record {
       restored = made;
       begun = begun;
-      restores = record { done = c.restore_stops.ensures.done; terms = c.restore_stops.ensures.terms };
+      restores = record { done = c.restore_stops.ensures.done; terms = c.restore_stops.ensures.terms; keep_numbers = c.restore_stops.ensures.numbers };
       begins = inr (subst (λ setup. Begins g.M.RecordedMachine.stands setup made begun) c.in-Some.ensures.setup c.begin.ensures.done);
       serves = serves_nothing g.M.RecordedMachine.stands (setup_of c.args.launch.now) start (unread left c.begin.new.self) begun (told left start (messages_of c.args.self.now) c.begin.new.self (c.begin.ensures.messages ∙ c.reply.ensures.messages) (lets_nothing_go start));
     }
@@ -52,7 +52,7 @@ returns g c =
     record {
       restored = made;
       begun = begun;
-      restores = record { done = c.restore_stops.ensures.done; terms = c.restore_stops.ensures.terms };
+      restores = record { done = c.restore_stops.ensures.done; terms = c.restore_stops.ensures.terms; keep_numbers = c.restore_stops.ensures.numbers };
       begins = inr (subst (λ setup. Begins g.M.RecordedMachine.stands setup made begun) c.in-Some.ensures.setup c.begin.ensures.done);
       serves = subst (λ messages. Serves g.M.RecordedMachine.stands (setup_of c.args.launch.now) (frames.unread left messages) (unread left c.go_on.new.self) begun (run_of c.go_on.new.session c.go_on.new.terms)) (c.begin.ensures.messages ∙ c.reply.ensures.messages) c.go_on.ensures;
     }
