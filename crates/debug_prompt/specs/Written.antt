@@ -5,7 +5,7 @@ use Rattle.gang_model.specs.Texts.CommandText.{index}
 use Rattle.gang_model.specs.Texts.Text.{Bytes, target_text}
 use Rattle.prompt_lines.specs.Conditions.{behind_first, first_word}
 use Rattle.prompt_lines.specs.Heads.{stripped}
-use Rattle.prompt_texts.specs.declared.forms.Digits.TheVariants as in_digits
+use Rattle.value_digits.specs.declared.digits.Digits.TheVariants as in_digits
 use Rattle.prompt_values.specs.declared.numbered.Printed.{Printed}
 use Rattle.prompt_values.specs.FormsPrinted.{IsWrittenOf}
 use Rattle.prompt_values.specs.Numbered.{Kept, listed_text, printed_line, value_name}

@@ -11,7 +11,7 @@ ghost use Rattle.prompt_scenes.specs.Holding.{held};
 ghost use Rattle.prompt_scenes.specs.Readings as readings;
 ghost use Rattle.prompt_scenes.specs.SelectedFrame as selection;
 ghost use Rattle.prompt_moves.specs.Following as following;
-ghost use Rattle.prompt_texts.specs.declared.forms.Digits.TheVariants as in_digits;
+ghost use Rattle.value_digits.specs.declared.digits.Digits.TheVariants as in_digits;
 ghost use Rattle.prompt_texts.specs.Shown.{Puts};
 ghost use Rattle.prompt_values.specs.FormsPrinted.{IsWrittenOf};
 ghost use Rattle.prompt_values.specs.Numbered.{kept};
@@ -27,11 +27,12 @@ use prompt_moves::show_displays;
 use prompt_scenes::{
     Holding, Scene, delete_of, find_part, is_shown, print_of, selected_depth, sets,
 };
-use prompt_texts::{Digits, Page, tell_refused, tell_unknown};
+use prompt_texts::{Page, tell_refused, tell_unknown};
 use prompt_values::{
     Printed, Values, do_and_show, print_answer, print_expression, print_instead, print_shown,
     set_and_show, show_form, show_formatted, value_instead,
 };
+use value_digits::Digits;
 
 /// Prints a target, an expression or a numbered value, or sets a target where the line goes on with `=` and a value. Gives a value that was
 /// printed and has no number yet.

@@ -9,8 +9,9 @@ use expression_watches::ExpressionWatch;
 use frame_expressions::ExpressionMachine;
 use frame_values::{NoValue, value_of_expression};
 use prompt_scenes::{Holding, Scene, depth};
-use prompt_texts::{Digits, Page, show_expression, show_faulty};
+use prompt_texts::{Page, show_expression, show_faulty};
 use prompt_values::{show_target, tell_moved, tell_said};
+use value_digits::Digits;
 
 /// Tells the watch that was made by a number, if it was.
 pub(crate) fn tell_made<O: AnswerWriter + Drop>(

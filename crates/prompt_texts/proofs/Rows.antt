@@ -2,7 +2,7 @@
 use Rattle.std.proofs.Common.{◌≡◌, ◌∙◌, ℕ, suc, ◌+◌, ◌<◌, List, [], ◌∷◌, ◌++◌, get_or, length, take, ap, append-nil, append_assoc, sym, arith}
 use Rattle.std.proofs.lemmas.List.{length-take-le, take_more}
 use Rattle.gang_types.specs.declared.types.IntType.{IntType}
-use Rattle.prompt_texts.specs.declared.forms.Digits.{Digits}
+use Rattle.value_digits.specs.declared.digits.Digits.{Digits}
 use Rattle.gang_types.specs.Lanes.{Lanes}
 use Rattle.prompt_texts.specs.declared.items.Item.{Item}
 use Rattle.prompt_texts.specs.Items.{head_text, item_text, lane_item, lane_items, rows_text}

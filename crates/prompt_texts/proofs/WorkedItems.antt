@@ -4,7 +4,7 @@ use Rattle.std.specs.Prelude.{codes, replicate}
 use Rattle.std.specs.Fmt.{digits}
 use Rattle.gang_types.specs.Values.{value_of}
 use Rattle.gang_types.specs.declared.types.IntType.TheVariants.{Bool, Int32, Uint8}
-use Rattle.prompt_texts.specs.declared.forms.Digits.TheVariants.{Decimal, Hexadecimal}
+use Rattle.value_digits.specs.declared.digits.Digits.TheVariants.{Decimal, Hexadecimal}
 use Rattle.prompt_texts.specs.declared.items.Standing.TheVariants.{Counts, Waits}
 use Rattle.prompt_texts.specs.Items.{are_cut, element_item, groups, head_text, is_narrow, item_text, kept, lane_item, lane_items, placed, rows_text, runs}
 

@@ -7,14 +7,14 @@ use Rattle.gang_types.specs.declared.types.Rate.{Rate}
 use Rattle.gang_types.specs.declared.types.Rate.TheVariants.{Uniform, Varying}
 use Rattle.gang_types.specs.Lanes.{Lanes, has}
 use Rattle.gang_model.specs.Texts.Text.{Bytes, word_text}
-use Rattle.prompt_texts.specs.declared.forms.Digits.{Digits}
-use Rattle.prompt_texts.specs.declared.forms.Digits.TheVariants as in_digits
+use Rattle.value_digits.specs.declared.digits.Digits.{Digits}
+use Rattle.value_digits.specs.declared.digits.Digits.TheVariants as in_digits
 use Rattle.prompt_texts.specs.declared.items.Item.{Item}
 use Rattle.prompt_texts.specs.declared.items.Layout.{Layout}
 use Rattle.prompt_texts.specs.declared.items.Standing.{Standing}
 use Rattle.prompt_texts.specs.declared.items.Standing.TheVariants.{Counts, Waits}
 use Rattle.prompt_texts.specs.declared.told.Told.{Told}
-use Rattle.prompt_texts.specs.Forms.{form_text}
+use Rattle.value_digits.specs.Words.{form_text}
 
 -- ---- elements
 

@@ -6,7 +6,6 @@ ghost use Rattle.prompt_texts.specs.Shown.{Puts};
 
 use crate::causes::tell_refused_here;
 use crate::changes::Before;
-use crate::forms::Digits;
 use crate::frames::put_frames;
 use crate::marked::digits;
 use crate::moments::step_of;
@@ -20,6 +19,7 @@ use debug_commands::Target;
 use debug_session::Session;
 use debug_traits::{AnswerWriter, Fault, RecordedMachine, Shown};
 use gang_types::FaultName;
+use value_digits::Digits;
 
 /// What is said of every fault.
 const NOTHING_DONE: &[u8] = b"; nothing of this step is done:";

@@ -1,6 +1,5 @@
 //! Which variables a move changed.
 use crate::answers::put_target;
-use crate::forms::Digits;
 use crate::moments::step_of;
 use crate::noted::{MOST, Noted, function_at};
 use crate::page::Page;
@@ -12,6 +11,7 @@ use debug_commands::Target;
 use debug_session::Session;
 use debug_traits::{AnswerWriter, FramedMachine, RecordedMachine, Shown};
 use gang_types::IntType;
+use value_digits::Digits;
 
 /// The most lanes of a gang.
 pub(crate) const WIDEST: usize = 16;

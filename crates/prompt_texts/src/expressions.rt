@@ -5,7 +5,6 @@ ghost use Rattle.prompt_texts.specs.Forms as spec;
 ghost use Rattle.prompt_texts.specs.Shown.{Puts};
 
 use crate::answers::fault_text;
-use crate::forms::Digits;
 use crate::page::Page;
 use crate::refusals::put_typed;
 use crate::values::put_word;
@@ -16,6 +15,7 @@ use gang_model::{RefusalNumber, SourceRefusal};
 use gang_types::{IntType, Place, Rate};
 use placed_expressions::ExpressionRefusal;
 use prompt_help::why_no_value;
+use value_digits::Digits;
 
 /// The widest gang.
 const WIDEST: usize = 16;

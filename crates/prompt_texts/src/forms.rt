@@ -2,34 +2,17 @@
 ghost use Rattle.std.specs.Prelude.{◌≡◌, ◌≤◌, ◌<◌, ◌++◌, ◌∷◌, ◌%◌, ◌^◌, [], false, codes, drop, decimal};
 ghost use Rattle.std.specs.Fmt as fmt;
 ghost use Rattle.gang_types.specs.Values.{converted, width};
-ghost use Rattle.gang_model.specs.Texts.Spellings.{is_between};
 ghost use Rattle.gang_model.specs.Texts.Text.{word_text};
-ghost use Rattle.prompt_texts.specs.Forms as spec;
+ghost use Rattle.value_digits.specs.Words as spec;
 ghost use Rattle.prompt_texts.specs.Shown.{Puts};
 
 use crate::page::Page;
 use debug_traits::AnswerWriter;
-use gang_types::{IntType, convert, is_signed, low_bits, value};
+use gang_types::{IntType, convert, value};
+use value_digits::{Digits, bits_of, byte_type, is_printed, letter_of};
 
 /// The most digits of a number: those of 64 bits to the base 2.
 const MOST: usize = 64;
-
-/// The digits that values are written in.
-#[derive(Clone, Copy, Debug, PartialEq, Eq)]
-pub enum Digits {
-    /// The value.
-    Decimal,
-    /// The bits, as many as the type has, as a number without a sign.
-    Unsigned,
-    /// The bits behind `0x`.
-    Hexadecimal,
-    /// The bits behind a 0.
-    Octal,
-    /// The bits.
-    Binary,
-    /// What a cast to 8 bits gives, and the character that this is.
-    Character,
-}
 
 /// Writes a word.
 pub(crate) fn put_form<O: AnswerWriter + Drop>(
@@ -59,13 +42,6 @@ fn put_decimal<O: AnswerWriter + Drop>(value_type: IntType, word: u64, page: &mu
     } else {
         page.put_number(value(value_type, word));
     }
-}
-
-/// The bits of a word, as many as its type has.
-fn bits_of(value_type: IntType, word: u64) -> u64
-    ensures { result ≡ spec.bits_of value_type word }
-{
-    word & low_bits(value_type)
 }
 
 /// Writes hexadecimal digits behind `0x`.
@@ -138,17 +114,6 @@ fn put_byte<O: AnswerWriter + Drop>(value_type: IntType, word: u64, page: &mut P
     put_quoted(byte_type, convert(value_type, byte_type, word), page);
 }
 
-/// The type of 8 bits that has values below 0 where this one has.
-fn byte_type(value_type: IntType) -> IntType
-    ensures { result ≡ spec.byte_type value_type }
-{
-    if is_signed(value_type) {
-        IntType::Int8
-    } else {
-        IntType::Uint8
-    }
-}
-
 /// Writes the value of a word of 8 bits, and the character that it is.
 fn put_quoted<O: AnswerWriter + Drop>(value_type: IntType, word: u64, page: &mut Page<O>)
     requires { width value_type ≡ 8 }
@@ -176,30 +141,5 @@ fn put_character<O: AnswerWriter + Drop>(byte: u8, page: &mut Page<O>)
             b'0' + byte / 8 % 8,
             b'0' + byte % 8,
         ]);
-    }
-}
-
-/// Whether a byte of ASCII is shown as it is.
-fn is_printed(byte: u8) -> bool
-    ensures { result ≡ is_between 32 126 byte }
-{
-    matches!(byte, 32..=126)
-}
-
-/// The letter that stands for a byte behind `\`, or 0.
-fn letter_of(byte: u8) -> u8
-    ensures { result ≡ spec.letter_of byte }
-{
-    match byte {
-        7 => b'a',
-        8 => b'b',
-        9 => b't',
-        10 => b'n',
-        11 => b'v',
-        12 => b'f',
-        13 => b'r',
-        39 => b'\'',
-        92 => b'\\',
-        _ => 0,
     }
 }

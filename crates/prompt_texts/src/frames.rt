@@ -6,7 +6,6 @@ ghost use Rattle.prompt_texts.specs.Items.{told_text};
 ghost use Rattle.prompt_texts.specs.Shown.{Puts};
 
 use crate::answers::put_target;
-use crate::forms::Digits;
 use crate::items::Layout;
 use crate::page::Page;
 use crate::places::{put_around, put_place};
@@ -17,6 +16,7 @@ use debug_session::Session;
 use debug_traits::{AnswerWriter, FramedMachine, NamedVariable, RecordedMachine};
 use gang_types::Mask;
 use std::alloc::Global;
+use value_digits::Digits;
 
 /// The most variables of a program.
 const VARIABLES: u32 = 256;

@@ -2,15 +2,16 @@
 ghost use Rattle.std.specs.Prelude.{◌≡◌, ◌<◌, ◌++◌, codes, flat_map, length};
 ghost use Rattle.std.specs.List.{list_all};
 ghost use Rattle.gang_model.specs.Texts.Text.{word_text};
-ghost use Rattle.prompt_texts.specs.Forms.{form_text};
+ghost use Rattle.value_digits.specs.Words.{form_text};
 ghost use Rattle.prompt_texts.specs.Items as spec;
 ghost use Rattle.prompt_texts.specs.Shown.{Puts};
 
-use crate::forms::{Digits, put_form};
+use crate::forms::put_form;
 use crate::page::Page;
 use debug_traits::AnswerWriter;
 use gang_types::{IntType, value};
 use itoa::Buffer;
+use value_digits::Digits;
 
 /// How many items stand in a row, of such as take few columns.
 const MANY: usize = 16;

@@ -27,7 +27,6 @@ pub use asked::{Asked, show_moment, tell_asked};
 pub use causes::{tell_refused, tell_refused_at, tell_refused_here};
 pub use changes::{Before, Beginning, Watched, tell_never_changed, tell_since};
 pub use expressions::{Spelled, show_expression, show_faulty, tell_no_value};
-pub use forms::Digits;
 pub use frames::{
     lanes_at, show_arguments, show_frame, show_frames, show_full_frames, show_locals, show_value,
 };

@@ -9,7 +9,6 @@ ghost use Rattle.prompt_texts.specs.Shown.{Puts};
 ghost use Rattle.prompt_texts.specs.SourceLines as lines;
 
 use crate::answers::{put_target, put_watched};
-use crate::forms::Digits;
 use crate::help::{put_help, put_topic};
 use crate::moments::step_of;
 use crate::page::Page;
@@ -22,6 +21,7 @@ use debug_traits::{AnswerWriter, FramedMachine, RecordedMachine, Shown};
 use debug_words::is_blank;
 use gang_types::{IntType, Rate};
 use prompt_help::explanation;
+use value_digits::Digits;
 
 /// What `info` lists.
 const LISTS: &[u8] =

@@ -1,6 +1,5 @@
 //! What the scalars of the file or of a frame showed at a moment.
 use crate::changes::{WIDEST, Words, depth, put_all, words_of};
-use crate::forms::Digits;
 use crate::frames::lanes_at;
 use crate::items::put_item;
 use crate::page::Page;
@@ -8,6 +7,7 @@ use crate::told::{is_of_lanes, lane_item};
 use arrayvec::ArrayVec;
 use debug_traits::{AnswerWriter, FramedMachine, NamedVariable, Position, RecordedMachine, Shown};
 use gang_types::{Mask, VarId};
+use value_digits::Digits;
 
 /// How many variables are noted at most, and how many of the file or of a function are looked at.
 pub(crate) const MOST: usize = 64;

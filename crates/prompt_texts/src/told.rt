@@ -9,12 +9,12 @@ ghost use Rattle.debug_traits.specs.Frames.{IsShownAt, state_at};
 ghost use Rattle.prompt_texts.specs.Items as spec;
 ghost use Rattle.prompt_texts.specs.Shown.{Puts};
 
-use crate::forms::Digits;
 use crate::items::{Item, Layout, Standing, put_items, put_rest};
 use crate::page::Page;
 use debug_traits::{AnswerWriter, FramedMachine, Shown};
 use gang_types::{IntType, Mask, Rate};
 use std::alloc::{AllocError, Global};
+use value_digits::Digits;
 
 /// The widest gang.
 const WIDEST: usize = 16;

@@ -6,10 +6,11 @@ ghost use Rattle.debug_traits.specs.Machines.{IsShown};
 ghost use Rattle.prompt_texts.specs.Forms.{shown_text, values_text};
 ghost use Rattle.prompt_texts.specs.Shown.{Puts};
 
-use crate::forms::{Digits, put_form};
+use crate::forms::put_form;
 use crate::page::Page;
 use debug_traits::{AnswerWriter, RecordedMachine, Shown};
 use gang_types::IntType;
+use value_digits::Digits;
 
 /// Writes a blank and a word.
 pub(crate) fn put_word<O: AnswerWriter + Drop>(

@@ -1,7 +1,7 @@
 -- What some command lines name.
 use Rattle.std.proofs.Common.{◌≡◌, Some, None, refl}
 use Rattle.std.specs.Prelude.{codes}
-use Rattle.prompt_texts.specs.declared.forms.Digits.TheVariants as in_digits
+use Rattle.value_digits.specs.declared.digits.Digits.TheVariants as in_digits
 use Rattle.prompt_values.specs.Forms.{form_of}
 
 decimal : form_of (codes "print w + 1") ≡ Some (record { digits = in_digits.Decimal; text = codes " w + 1" })

@@ -2,7 +2,7 @@
 use Rattle.std.proofs.Common.{List, ℕ, Option, None, Some, inl, inr}
 use Rattle.gang_model.specs.Debugger.Debugger.{Target}
 use Rattle.gang_model.specs.Texts.Text.{target_text}
-use Rattle.prompt_texts.specs.declared.forms.Digits.{Digits}
+use Rattle.value_digits.specs.declared.digits.Digits.{Digits}
 use Rattle.prompt_values.specs.declared.numbered.Printed.{Printed}
 use Rattle.prompt_values.specs.FormsPrinted.{IsWrittenOf}
 use Rattle.prompt_values.specs.Printed.{IsWritten, line_or_none}

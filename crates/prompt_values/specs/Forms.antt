@@ -1,20 +1,15 @@
 -- What a command line names that prints: a text, and the digits in which it is shown.
 use Rattle.std.specs.Prelude.{ℕ, ◌==◌, List, [], ◌∷◌, Option, Some, None, codes, option_and_then, option_map, if◌then◌else◌}
 use Rattle.gang_model.specs.Texts.Spellings.{behind}
-use Rattle.prompt_texts.specs.declared.forms.Digits.{Digits}
-use Rattle.prompt_texts.specs.declared.forms.Digits.TheVariants as in_digits
+use Rattle.value_digits.specs.declared.digits.Digits.{Digits}
+use Rattle.value_digits.specs.declared.digits.Digits.TheVariants as in_digits
+use Rattle.value_digits.specs.Digits.{digits_of}
 use Rattle.prompt_values.specs.declared.forms.Form as declared
 
 -- digits, and the text that is shown in them
 pub record Form : Type 0 where
   pub digits : Digits
   pub text : List ℕ
-
--- the digits of a letter
-abbrev pub digits_of : (letter : ℕ) → Option Digits
-digits_of letter =
-    if letter == 120 then Some in_digits.Hexadecimal else if letter == 111 then Some in_digits.Octal else if letter == 116 then Some in_digits.Binary
-    else if letter == 117 then Some in_digits.Unsigned else if letter == 99 then Some in_digits.Character else None
 
 -- a text in digits, if there are any
 abbrev pub form_in : Option Digits → (text : List ℕ) → Option Form

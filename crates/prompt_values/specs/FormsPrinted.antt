@@ -5,7 +5,7 @@ use Rattle.gang_model.specs.Texts.CommandText.{command_of}
 use Rattle.gang_model.specs.Texts.Text.{Bytes, target_text}
 use Rattle.prompt_lines.specs.Words.{printing_text}
 use Rattle.prompt_scenes.specs.Readings.{print_of}
-use Rattle.prompt_texts.specs.declared.forms.Digits.{Digits}
+use Rattle.value_digits.specs.declared.digits.Digits.{Digits}
 use Rattle.prompt_values.specs.declared.numbered.Printed.{Printed}
 use Rattle.prompt_values.specs.declared.numbered.ValueName.{ValueName}
 use Rattle.prompt_values.specs.Forms.{Form, form_of}

@@ -8,8 +8,8 @@ use Rattle.gang_model.specs.Texts.Spellings.{behind}
 use Rattle.gang_model.specs.Texts.Text.{Bytes}
 use Rattle.frame_values.specs.declared.values.ExpressionValue.{ExpressionValue}
 use Rattle.prompt_lines.specs.Heads.{stripped}
-use Rattle.prompt_texts.specs.declared.forms.Digits.{Digits}
-use Rattle.prompt_texts.specs.declared.forms.Digits.TheVariants as in_digits
+use Rattle.value_digits.specs.declared.digits.Digits.{Digits}
+use Rattle.value_digits.specs.declared.digits.Digits.TheVariants as in_digits
 use Rattle.prompt_texts.specs.Forms.{expression_line}
 use Rattle.prompt_texts.specs.Items.{told_text}
 use Rattle.prompt_values.specs.Widths.{is_gang_width}

@@ -10,8 +10,8 @@ use Rattle.frame_values.specs.Values.{HasNoValue, IsValueOf}
 use Rattle.prompt_lines.specs.Heads.{stripped}
 use Rattle.prompt_lines.specs.Parts.{count_place}
 use Rattle.prompt_lines.specs.Words.{is_alone}
-use Rattle.prompt_texts.specs.declared.forms.Digits.{Digits}
-use Rattle.prompt_texts.specs.declared.forms.Digits.TheVariants as in_digits
+use Rattle.value_digits.specs.declared.digits.Digits.{Digits}
+use Rattle.value_digits.specs.declared.digits.Digits.TheVariants as in_digits
 use Rattle.prompt_texts.specs.Shown.{masked}
 use Rattle.prompt_values.specs.declared.numbered.Printed.{Printed}
 use Rattle.prompt_values.specs.declared.numbered.Printed.TheVariants as printed

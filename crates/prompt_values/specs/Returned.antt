@@ -20,7 +20,7 @@ use Rattle.call_results.specs.Calls.{given_at}
 use Rattle.call_results.specs.declared.given.GivenResult.{GivenResult}
 use Rattle.prompt_texts.specs.declared.items.Layout.{Layout}
 use Rattle.prompt_texts.specs.declared.told.Told.{Told}
-use Rattle.prompt_texts.specs.declared.forms.Digits.TheVariants as in_digits
+use Rattle.value_digits.specs.declared.digits.Digits.TheVariants as in_digits
 use Rattle.prompt_texts.specs.Items.{Tells, is_of_lanes, told_text}
 use Rattle.prompt_values.specs.declared.returned.Awaited.{Awaited}
 use Rattle.prompt_values.specs.Printed.{no_memory}

@@ -6,7 +6,7 @@ ghost use Rattle.debug_traits.specs.Frames.{found_at};
 ghost use Rattle.prompt_lines.specs.Parts.{count_place};
 ghost use Rattle.prompt_scenes.specs.Holding.{held};
 ghost use Rattle.prompt_scenes.specs.SelectedFrame.{depth_of};
-ghost use Rattle.prompt_texts.specs.declared.forms.Digits.TheVariants as in_digits;
+ghost use Rattle.value_digits.specs.declared.digits.Digits.TheVariants as in_digits;
 ghost use Rattle.prompt_texts.specs.Shown.{Puts};
 ghost use Rattle.prompt_values.specs.Instead.{IsInstead, IsValueOrNone};
 ghost use Rattle.prompt_values.specs.Numbered.{IsExpressionOrNone, kept, value_name};
@@ -20,7 +20,8 @@ use frame_expressions::ExpressionMachine;
 use frame_values::{ExpressionValue, value_of_expression};
 use prompt_lines::{HELD, count_place, is_alone, stripped};
 use prompt_scenes::{Holding, Scene, selected_depth};
-use prompt_texts::{Digits, Page, Spelled, show_expression, tell_no_value, tell_unspelled};
+use prompt_texts::{Page, Spelled, show_expression, tell_no_value, tell_unspelled};
+use value_digits::Digits;
 
 /// How many bytes the word has that a command line begins with.
 const WORD: usize = 5;

@@ -21,8 +21,9 @@ use frame_values::{NoValue, value_of_expression};
 use prompt_lines::{printing_line, stripped};
 use prompt_scenes::{Displayed, Holding, Scene, depth, find_part, print_of, selected_depth};
 use prompt_texts::{
-    Digits, Page, show_expression, show_faulty, tell_refused, tell_refused_here, tell_unspelled,
+    Page, show_expression, show_faulty, tell_refused, tell_refused_here, tell_unspelled,
 };
+use value_digits::{Digits, digits_of};
 
 /// The word that a command line begins with which prints.
 const PRINT: &[u8] = b"print";
@@ -68,20 +69,6 @@ fn form_in(digits: Option<Digits>, text: &[u8]) -> Option<Form<'_>>
     match digits {
         Some(digits) => Some(Form { digits, text }),
         None => None,
-    }
-}
-
-/// The digits of a letter.
-fn digits_of(letter: u8) -> Option<Digits>
-    ensures { result ≡ spec.digits_of letter }
-{
-    match letter {
-        b'x' => Some(Digits::Hexadecimal),
-        b'o' => Some(Digits::Octal),
-        b't' => Some(Digits::Binary),
-        b'u' => Some(Digits::Unsigned),
-        b'c' => Some(Digits::Character),
-        _ => None,
     }
 }
 

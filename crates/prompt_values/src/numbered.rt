@@ -11,7 +11,8 @@ use arrayvec::ArrayVec;
 use debug_traits::AnswerWriter;
 use frame_values::ExpressionValue;
 use prompt_lines::{index, stripped};
-use prompt_texts::{Digits, Page, Told, put_told, show_expression};
+use prompt_texts::{Page, Told, put_told, show_expression};
+use value_digits::Digits;
 
 /// How many values are kept.
 const MOST: usize = 100;

@@ -8,7 +8,7 @@ ghost use Rattle.debug_session.specs.Sessions.{StandsFor};
 ghost use Rattle.debug_traits.specs.Frames.{IsShownAt, spot_at};
 ghost use Rattle.prompt_lines.specs.Readings.{bytes_option};
 ghost use Rattle.prompt_scenes.specs.Given as given;
-ghost use Rattle.prompt_texts.specs.declared.forms.Digits.TheVariants as in_digits;
+ghost use Rattle.value_digits.specs.declared.digits.Digits.TheVariants as in_digits;
 ghost use Rattle.prompt_texts.specs.Items.{told_text};
 ghost use Rattle.prompt_texts.specs.Shown.{Puts};
 ghost use Rattle.prompt_values.specs.Returned as spec;
@@ -22,9 +22,10 @@ use debug_traits::{AnswerWriter, Shown};
 use frame_expressions::ExpressionMachine;
 use gang_types::{Mask, Spot, VarId};
 use prompt_scenes::{Scene, depth, is_here};
-use prompt_texts::{Digits, Page, Told, put_told, told_variable};
+use prompt_texts::{Page, Told, put_told, told_variable};
 use std::alloc::AllocError;
 use typed_tree::{Function, Program};
+use value_digits::Digits;
 
 /// The widest gang.
 const WIDEST: usize = 16;

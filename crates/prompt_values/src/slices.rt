@@ -10,7 +10,8 @@ use frame_values::{ExpressionValue, NoValue, value_of_expression};
 use gang_types::{Rate, value};
 use prompt_lines::count_place;
 use prompt_scenes::Scene;
-use prompt_texts::{Digits, Page, Spelled, tell_no_value};
+use prompt_texts::{Page, Spelled, tell_no_value};
+use value_digits::Digits;
 
 /// The widest gang.
 const WIDEST: usize = 16;

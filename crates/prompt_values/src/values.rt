@@ -14,9 +14,8 @@ use debug_commands::{Command, Target};
 use debug_session::Session;
 use debug_traits::{AnswerWriter, FramedMachine, Shown};
 use prompt_scenes::{Scene, depth, find_part};
-use prompt_texts::{
-    Digits, Page, lanes_at, put_told, show_value, tell, tell_refused_at, told_variable,
-};
+use prompt_texts::{Page, lanes_at, put_told, show_value, tell, tell_refused_at, told_variable};
+use value_digits::Digits;
 
 /// What is said where memory runs out.
 pub(crate) const NO_MEMORY: &[u8] = b"C12 Memory: there is no memory to show this.\n";

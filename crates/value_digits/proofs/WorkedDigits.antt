@@ -47,6 +47,10 @@ binary_row : form_text Binary Int32 10 ≡ codes "1010"
 unfolding digits
 binary_row = refl
 
+binary_bool_row : form_text Binary Bool 1 ≡ codes "1"
+unfolding digits
+binary_bool_row = refl
+
 bool_row : form_text Decimal Bool 1 ≡ codes "true"
 bool_row = refl
 

@@ -5,4 +5,4 @@ mod digits;
 mod words;
 
 pub use digits::{Digits, digits_of};
-pub use words::digits_text;
+pub use words::{bits_of, byte_type, digits_text, is_printed, letter_of};

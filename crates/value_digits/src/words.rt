@@ -44,8 +44,8 @@ fn decimal_text(alloc: Global, value_type: IntType, word: u64) -> Result<String,
     number_text(alloc, value_type, word)
 }
 
-/// The bits of a word, as many as its type has.
-fn bits_of(value_type: IntType, word: u64) -> u64
+/// The bits of a word, as many as its type has, as a number without a sign.
+pub fn bits_of(value_type: IntType, word: u64) -> u64
     ensures { result ≡ spec.bits_of value_type word }
 {
     word & low_bits(value_type)
@@ -91,8 +91,8 @@ fn byte_text(alloc: Global, value_type: IntType, word: u64) -> Result<String, Al
     quoted_text(alloc, byte_type, convert(value_type, byte_type, word))
 }
 
-/// The type of 8 bits that has values below 0 where this one has.
-fn byte_type(value_type: IntType) -> IntType
+/// The type of 8 bits that has values below 0 where this one has: a character of a word is a cast to it.
+pub fn byte_type(value_type: IntType) -> IntType
     ensures { result ≡ spec.byte_type value_type }
 {
     if is_signed(value_type) {
@@ -156,15 +156,15 @@ fn octal_escape(alloc: Global, byte: u8) -> Result<String, AllocError>
     format!(in alloc; "\\{high}{middle}{low}")
 }
 
-/// Whether a byte of ASCII is shown as it is.
-fn is_printed(byte: u8) -> bool
+/// Whether a byte is one of ASCII that a character is shown as.
+pub fn is_printed(byte: u8) -> bool
     ensures { result ≡ is_between 32 126 byte }
 {
     matches!(byte, 32..=126)
 }
 
-/// The letter that stands for a byte behind `\`, or 0.
-fn letter_of(byte: u8) -> u8
+/// The letter that stands for a byte behind `\`, as C spells it, or 0.
+pub fn letter_of(byte: u8) -> u8
     ensures letter { result ≡ spec.letter_of byte }
     ensures ascii { result < 128 }
 {

@@ -1,7 +1,7 @@
 use Rattle.std.proofs.Common.{ℕ, List}
 use Rattle.std.specs.Prelude.{drop}
 use Rattle.debug_commands.specs.Views.{target_view}
-use Rattle.prompt_texts.specs.declared.forms.Digits.TheVariants as in_digits
+use Rattle.value_digits.specs.declared.digits.Digits.TheVariants as in_digits
 use Rattle.prompt_texts.specs.Shown.{Puts}
 use Rattle.prompt_values.proofs.WrittenForms.{of_expression}
 use Rattle.debug_prompt.proofs.PrintedTargets.{of_target}

@@ -2,7 +2,7 @@ use Rattle.std.proofs.Common.{◌≡◌, ◌++◌, ◌∙◌, sym, subst, true, 
 use Rattle.std.specs.Prelude.{slice_index, if◌then◌else◌}
 use Rattle.gang_types.specs.Lanes.{has}
 use Rattle.gang_types.specs.Masks.{lanes_of}
-use Rattle.prompt_texts.specs.Forms.{form_text}
+use Rattle.value_digits.specs.Words.{form_text}
 use Rattle.prompt_texts.specs.Shown.{Puts}
 use Rattle.prompt_texts.proofs.Putting.{in_widest}
 use Rattle.prompt_texts.proofs.expressions.put_lane.Goals as goal

@@ -1,5 +1,5 @@
 use Rattle.std.proofs.Common.{List, ℕ, Option, None, Some, subst}
-use Rattle.prompt_texts.specs.declared.forms.Digits.{Digits}
+use Rattle.value_digits.specs.declared.digits.Digits.{Digits}
 use Rattle.prompt_texts.specs.Shown.{Puts, masked}
 use Rattle.prompt_values.specs.declared.numbered.Printed.{Printed}
 use Rattle.prompt_values.specs.Printed.{IsLineOf, line_or_none}

@@ -2,7 +2,7 @@ use Rattle.std.proofs.Common.{◌≡◌, List, [], ℕ, Option, Some, None, ap, 
 use Rattle.std.specs.Prelude.{◌++◌, codes}
 use Rattle.gang_types.specs.Masks.{IsGangWidth}
 use Rattle.frame_values.specs.declared.values.ExpressionValue.{ExpressionValue}
-use Rattle.prompt_texts.specs.declared.forms.Digits.{Digits}
+use Rattle.value_digits.specs.declared.digits.Digits.{Digits}
 use Rattle.prompt_texts.specs.Forms.{expression_line, expression_text}
 use Rattle.prompt_texts.specs.Shown.{Puts, masked}
 use Rattle.prompt_values.specs.declared.numbered.Printed.{Printed}
