@@ -1,5 +1,4 @@
 mod Building
-pub mod PassedValues
 mod FlagsRead
 mod Parses
 mod VerbsRead

@@ -1,60 +1,27 @@
 -- Each value that a parse of a verb's options found passed its parser.
-use Rattle.std.proofs.Common.{◌≡◌, ◌⊎◌, ◌∙◌, ◌||◌, Bool, true, false, true≢false, List, [], ◌∷◌, Option, Some, None, refl, sym, ap, inl, inr, arith}
-use Rattle.std.specs.List.{list_any}
-use Rattle.std.specs.Str.{bytes_eq}
-use Rattle.std.specs.Prelude.{IfSome, codes}
+use Rattle.std.proofs.Common.{◌≡◌, ◌∙◌, List, Some, refl, ap, arith}
+use Rattle.std.specs.Prelude.{codes}
 use Rattle.std.specs.Borrow.{Bor}
-use Rattle.std.proofs.lemmas.Slice.Eq.{bytes_eq-Decides}
 use Rattle.clap.specs.Built.{IsParsedFrom}
 use Rattle.clap.specs.Matches.{found_of}
-use Rattle.clap.specs.Values.{Accepts}
 use Rattle.clap.specs.Walk.{Text}
 use Rattle.clap.specs.Simple.{app_of}
 use Rattle.clap.specs.declared.builder.command.Command.{Command}
 use Rattle.clap.specs.declared.builder.value_parser.ValueParser.TheVariants as parser
 use Rattle.clap.specs.declared.parser.matches.ArgMatches.{ArgMatches}
-use Rattle.clap.proofs.WalkLemmas.{list_any-map}
-use Rattle.ispc_options.specs.Asked.{AreWidths, flag, option_or, width_text}
-use Rattle.ispc_options.specs.declared.options.Width.{Width}
-use Rattle.ispc_options.specs.declared.options.Width.TheVariants.{Four, Eight, Sixteen}
+use Rattle.ispc_options.specs.Asked.{AreWidths, flag, option_or}
+use Rattle.ispc_options.proofs.PassedValues.{flag_passed, number_passed, one_of_the_widths, required_given, value_passed, which_flags}
 use Rattle.desk_options.specs.Commands.{rules_of, verb_command, wanted}
-use Rattle.desk_options.specs.Passed.{ArePagePassed, ArePassed, ArePicturePassed, ArePortedPassed, AreProfilePassed, HavePassed, IsFlagPassed}
+use Rattle.desk_options.specs.Passed.{ArePagePassed, ArePassed, ArePicturePassed, ArePortedPassed, AreProfilePassed, HavePassed}
 use Rattle.desk_options.specs.declared.names.VerbName.{VerbName}
 use Rattle.desk_options.specs.declared.names.VerbName.TheVariants.{Debug, Picture, Page, Profile, Adapter, Explain, Port}
-use Rattle.desk_options.proofs.PassedValues.{flag_passed, number_passed, required_given, value_passed}
-
--- a text that is one of the widths
-which_width : (t : Text) → list_any (λ n. bytes_eq n t) (codes "4" ∷ codes "8" ∷ codes "16" ∷ []) ≡ true → (w : Width) × (t ≡ width_text w)
-which_width t one = go (bytes_eq (codes "4") t) (bytes_eq (codes "8") t) (bytes_eq (codes "16") t) refl refl refl one
-  where
-    same : (s : Text) → bytes_eq s t ≡ true → t ≡ s
-    same s e = sym ((bytes_eq-Decides s t).0 e)
-
-    go : (a b c : Bool) → bytes_eq (codes "4") t ≡ a → bytes_eq (codes "8") t ≡ b → bytes_eq (codes "16") t ≡ c
-        → (a || (b || (c || false))) ≡ true → (w : Width) × (t ≡ width_text w)
-    go true b c is_4 is_8 is_16 one = (Four, same _ is_4)
-    go false true c is_4 is_8 is_16 one = (Eight, same _ is_8)
-    go false false true is_4 is_8 is_16 one = (Sixteen, same _ is_16)
-    go false false false is_4 is_8 is_16 one = absurd (true≢false (sym one))
-
-which_flag : (t : Text) → (bytes_eq t (codes "true") || bytes_eq t (codes "false")) ≡ true → (t ≡ codes "true") ⊎ (t ≡ codes "false")
-which_flag t one = go (bytes_eq t (codes "true")) refl one
-  where
-    go : (b : Bool) → bytes_eq t (codes "true") ≡ b → (b || bytes_eq t (codes "false")) ≡ true → (t ≡ codes "true") ⊎ (t ≡ codes "false")
-    go true is one = inl ((bytes_eq-Decides t (codes "true")).0 is)
-    go false is one = inr ((bytes_eq-Decides t (codes "false")).0 one)
-
-which_flags : (o : Option Text) → IfSome o (Accepts false parser.Bool) → IfSome o (λ t. (t ≡ codes "true") ⊎ (t ≡ codes "false"))
-which_flags None one = tt
-which_flags (Some t) one = which_flag t one
 
 module _ (widths : Bor (List (Bor Text))) (are : AreWidths widths) (old : Command) (m : ArgMatches) (p : IsParsedFrom old m) where
   debug_passed : app_of old ≡ verb_command widths Debug → ArePassed (found_of m)
   debug_passed app =
       let rules = rules_of widths Debug in
       let width = value_passed _ rules refl refl refl old app m p 3 (option_or (codes "width") (parser.Names widths) (codes "4")) (omega arith) (λ d. refl) refl refl (parser.Names widths) refl refl refl (omega arith) in
-      let w = which_width width.0
-      (sym (ap (list_any (λ n. bytes_eq n width.0)) are) ∙ (sym (list_any-map (λ n. bytes_eq n width.0) (λ (s : Bor Text). s.now) widths.now) ∙ width.3)) in
+      let w = one_of_the_widths widths are width.0 width.3 in
       record {
         source = required_given _ rules refl refl refl old app m p 0 (wanted (codes "source")) (omega arith) (λ d. refl) refl refl refl refl refl;
         width = (w.0, width.1 ∙ ap Some w.1);
@@ -66,8 +33,7 @@ module _ (widths : Bor (List (Bor Text))) (are : AreWidths widths) (old : Comman
   picture_passed app =
       let rules = rules_of widths Picture in
       let width = value_passed _ rules refl refl refl old app m p 3 (option_or (codes "width") (parser.Names widths) (codes "4")) (omega arith) (λ d. refl) refl refl (parser.Names widths) refl refl refl (omega arith) in
-      let w = which_width width.0
-      (sym (ap (list_any (λ n. bytes_eq n width.0)) are) ∙ (sym (list_any-map (λ n. bytes_eq n width.0) (λ (s : Bor Text). s.now) widths.now) ∙ width.3)) in
+      let w = one_of_the_widths widths are width.0 width.3 in
       let force = flag_passed _ rules refl refl refl old app m p 12 (flag (codes "force")) (omega arith) (λ d. refl) refl refl parser.Bool refl refl in
       record {
         program = record {
@@ -87,8 +53,7 @@ module _ (widths : Bor (List (Bor Text))) (are : AreWidths widths) (old : Comman
   page_passed app =
       let rules = rules_of widths Page in
       let width = value_passed _ rules refl refl refl old app m p 4 (option_or (codes "width") (parser.Names widths) (codes "4")) (omega arith) (λ d. refl) refl refl (parser.Names widths) refl refl refl (omega arith) in
-      let w = which_width width.0
-      (sym (ap (list_any (λ n. bytes_eq n width.0)) are) ∙ (sym (list_any-map (λ n. bytes_eq n width.0) (λ (s : Bor Text). s.now) widths.now) ∙ width.3)) in
+      let w = one_of_the_widths widths are width.0 width.3 in
       let force = flag_passed _ rules refl refl refl old app m p 13 (flag (codes "force")) (omega arith) (λ d. refl) refl refl parser.Bool refl refl in
       record {
         program = record {
@@ -109,8 +74,7 @@ module _ (widths : Bor (List (Bor Text))) (are : AreWidths widths) (old : Comman
   profile_passed app =
       let rules = rules_of widths Profile in
       let width = value_passed _ rules refl refl refl old app m p 3 (option_or (codes "width") (parser.Names widths) (codes "4")) (omega arith) (λ d. refl) refl refl (parser.Names widths) refl refl refl (omega arith) in
-      let w = which_width width.0
-      (sym (ap (list_any (λ n. bytes_eq n width.0)) are) ∙ (sym (list_any-map (λ n. bytes_eq n width.0) (λ (s : Bor Text). s.now) widths.now) ∙ width.3)) in
+      let w = one_of_the_widths widths are width.0 width.3 in
       let annotate = flag_passed _ rules refl refl refl old app m p 11 (flag (codes "annotate")) (omega arith) (λ d. refl) refl refl parser.Bool refl refl in
       let json = flag_passed _ rules refl refl refl old app m p 12 (flag (codes "json")) (omega arith) (λ d. refl) refl refl parser.Bool refl refl in
       let compare = flag_passed _ rules refl refl refl old app m p 13 (flag (codes "compare")) (omega arith) (λ d. refl) refl refl parser.Bool refl refl in

@@ -6,7 +6,7 @@ use Rattle.clap.specs.Walk.{Rule, Text}
 use Rattle.clap.specs.Simple.{App, new_shape, with_rule}
 use Rattle.clap.specs.declared.builder.action.ArgAction.TheVariants.{Set}
 use Rattle.clap.specs.declared.builder.value_parser.ValueParser.TheVariants as parser
-use Rattle.ispc_options.specs.Asked.{flag, option, option_or, up_to, valued}
+use Rattle.ispc_options.specs.Asked.{command_of, flag, option, option_or, up_to, valued}
 use Rattle.desk_options.specs.declared.names.VerbName.{VerbName}
 use Rattle.desk_options.specs.declared.names.VerbName.TheVariants.{Debug, Picture, Page, Profile, Adapter, Explain, Port}
 use Rattle.desk_options.specs.Names.{name_of}
@@ -85,10 +85,6 @@ rules_of widths Profile = program_rules widths ++ profile_rules
 rules_of widths Adapter = []
 rules_of widths Explain = several (codes "name") ∷ []
 rules_of widths Port = port_rules
-
--- a command of some rules
-abbrev pub command_of : Text → List Rule → App
-command_of name rules = record { top = record (new_shape name) { rules = rules; no_binary_name = true }; subs = [] }
 
 -- the command that reads the words behind a verb
 abbrev pub verb_command : Bor (List (Bor Text)) → VerbName → App

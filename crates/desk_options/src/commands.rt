@@ -2,16 +2,14 @@
 ghost use Rattle.std.specs.Prelude.{◌≡◌, IfOk, [], codes, false};
 ghost use Rattle.clap.specs.Words.{app_of, new_app, rule_of};
 ghost use Rattle.clap.specs.declared.builder.command.Command.TheViews.{out-Command};
-ghost use Rattle.ispc_options.specs.Asked.{AreWidths, flag, option, option_or, up_to, valued};
-ghost use Rattle.desk_options.specs.Commands.{all_verbs, bound_rules, command_of, debug_rules, page_rules, picture_rules, profile_rules, program_rules};
+ghost use Rattle.ispc_options.specs.Asked.{AreWidths, command_of, option};
+ghost use Rattle.desk_options.specs.Commands.{all_verbs, bound_rules, debug_rules, page_rules, picture_rules, profile_rules, program_rules};
 ghost use Rattle.desk_options.specs.Commands.{several, verb_command, wanted, with_rules};
 
 use crate::names::VerbName;
-use clap::builder::ValueParser;
-use clap::{Arg, ArgAction, Command, value_parser};
+use clap::{Arg, ArgAction, Command};
+use ispc_options::{flag, option, option_or, up_to, valued, widths};
 use std::alloc::{AllocError, Global};
-
-static WIDTHS: [&str; 3] = ["4", "8", "16"];
 
 /// The most events of the history, which is what a debugger and a picture keep where the words name no other number.
 pub(crate) const MOST_HISTORY: u32 = 65_536;
@@ -294,13 +292,6 @@ fn with_profile<'a>(alloc: Global, command: Command<'a>) -> Result<Command<'a>, 
         .arg(flag(alloc, "force").help("writes over the file of --to, whatever it holds"))
 }
 
-/// An argument whose value has a name in the help.
-fn valued<'a>(alloc: Global, id: &'a str, value: &'a str) -> Arg<'a>
-    ensures { (rule_of result ≡ valued id.now) × (result.global ≡ false) }
-{
-    Arg::new(alloc, id).value_name(value)
-}
-
 fn wanted<'a>(alloc: Global, id: &'a str, value: &'a str) -> Arg<'a>
     ensures { (rule_of result ≡ wanted id.now) × (result.global ≡ false) }
 {
@@ -313,48 +304,4 @@ fn several<'a>(alloc: Global, id: &'a str, value: &'a str) -> Arg<'a>
     ensures { (rule_of result ≡ several id.now) × (result.global ≡ false) }
 {
     valued(alloc, id, value).required(true).num_args(1..)
-}
-
-fn option<'a>(alloc: Global, name: &'a str, value: &'a str) -> Arg<'a>
-    ensures { (rule_of result ≡ option name.now) × (result.global ≡ false) }
-{
-    valued(alloc, name, value).long(name)
-}
-
-fn option_or<'a>(
-    alloc: Global,
-    name: &'a str,
-    value: &'a str,
-    parser: ValueParser<'a>,
-    default: &'a str,
-) -> Arg<'a>
-    ensures { (rule_of result ≡ option_or name.now parser.entry default.now) × (result.global ≡ false) }
-{
-    option(alloc, name, value)
-        .action(ArgAction::Set)
-        .value_parser(parser)
-        .default_value(default)
-}
-
-fn flag<'a>(alloc: Global, name: &'a str) -> Arg<'a>
-    ensures { (rule_of result ≡ flag name.now) × (result.global ≡ false) }
-{
-    Arg::new(alloc, name)
-        .long(name)
-        .action(ArgAction::SetTrue)
-        .value_parser(value_parser!(bool))
-}
-
-/// One of the widths.
-fn widths<'a>() -> ValueParser<'a>
-    ensures { (widths : _) × AreWidths widths × (result ≡ ValueParser.Names widths) }
-{
-    WIDTHS.as_slice().into()
-}
-
-/// Whole numbers from 1 to `most`.
-fn up_to<'a>(most: u32) -> ValueParser<'a>
-    ensures { result ≡ up_to most }
-{
-    ValueParser::signed(1, i64::from(most))
 }

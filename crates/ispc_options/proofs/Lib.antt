@@ -1,4 +1,5 @@
 pub mod Numbers
 pub mod Given
+pub mod PassedValues
 pub mod Parses
 pub mod Rows

@@ -55,11 +55,12 @@ rules widths = valued (codes "source")
     ∷ flag (codes "lane-pure")
     ∷ []
 
+-- a command of a name with these options, and no commands of its own
+abbrev pub command_of : Text → List Rule → App
+command_of name rules = record { top = record (new_shape name) { rules = rules; no_binary_name = true }; subs = [] }
+
 abbrev pub command : Bor (List (Bor Text)) → App
-command widths = record {
-  top = record (new_shape (codes "ispc_cli")) { rules = rules widths; no_binary_name = true };
-  subs = [];
-}
+command widths = command_of (codes "ispc_cli") (rules widths)
 
 abbrev pub width_text : Width → Text
 width_text Four = codes "4"

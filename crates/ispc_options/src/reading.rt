@@ -1,21 +1,18 @@
 //! The words of the command line.
-ghost use Rattle.std.specs.Prelude.{◌≡◌, ◌≤◌, IfOk, IfSome, IsOkAnd, false, true, is_some, option_map};
+ghost use Rattle.std.specs.Prelude.{◌≡◌, ◌≤◌, IfOk, IfSome, IsOkAnd, true, is_some, option_map};
 ghost use Rattle.clap.specs.Values.{kind_of};
 ghost use Rattle.clap.specs.declared.error.kind.ErrorKind.TheVariants.{UnknownArgument};
-ghost use Rattle.clap.specs.Words.{app_of, first_value, found_of, rule_of};
+ghost use Rattle.clap.specs.Words.{app_of, first_value, found_of};
 ghost use Rattle.clap.specs.Walk.{texts};
-ghost use Rattle.ispc_options.specs.Asked.{AreWidths, AsksFor, FailsFor, HasOptions, HasPaths, command, flag};
-ghost use Rattle.ispc_options.specs.Asked.{number_of, option, option_or, up_to, valued};
+ghost use Rattle.ispc_options.specs.Asked.{AreWidths, AsksFor, FailsFor, HasOptions, HasPaths, command, number_of};
 ghost use Rattle.ispc_options.specs.Passed.{ArePassed, HasNumber};
 ghost use Rattle.ispc_options.specs.Ranges.{AreInRange};
 
+use crate::arguments::{flag, option, option_or, up_to, valued, widths};
 use crate::options::{Options, Paths, Width};
-use clap::builder::ValueParser;
 use clap::error::ErrorKind;
-use clap::{Arg, ArgAction, ArgMatches, Command, Error, value_parser};
+use clap::{ArgMatches, Command, Error};
 use std::alloc::{AllocError, Global};
-
-static WIDTHS: [&str; 3] = ["4", "8", "16"];
 
 /// The most events of the history.
 const MOST_HISTORY: u32 = 65_536;
@@ -126,55 +123,4 @@ fn command<'a>(alloc: Global) -> Result<Command<'a>, AllocError>
         .arg(flag(alloc, "lane-pure").help(
             "reports which functions are lane-pure, and runs nothing",
         ))
-}
-
-/// An argument whose value has a name in the help.
-fn valued<'a>(alloc: Global, id: &'a str, value: &'a str) -> Arg<'a>
-    ensures { (rule_of result ≡ valued id.now) × (result.global ≡ false) }
-{
-    Arg::new(alloc, id).value_name(value)
-}
-
-fn option<'a>(alloc: Global, name: &'a str, value: &'a str) -> Arg<'a>
-    ensures { (rule_of result ≡ option name.now) × (result.global ≡ false) }
-{
-    valued(alloc, name, value).long(name)
-}
-
-fn option_or<'a>(
-    alloc: Global,
-    name: &'a str,
-    value: &'a str,
-    parser: ValueParser<'a>,
-    default: &'a str,
-) -> Arg<'a>
-    ensures { (rule_of result ≡ option_or name.now parser.entry default.now) × (result.global ≡ false) }
-{
-    option(alloc, name, value)
-        .action(ArgAction::Set)
-        .value_parser(parser)
-        .default_value(default)
-}
-
-fn flag<'a>(alloc: Global, name: &'a str) -> Arg<'a>
-    ensures { (rule_of result ≡ flag name.now) × (result.global ≡ false) }
-{
-    Arg::new(alloc, name)
-        .long(name)
-        .action(ArgAction::SetTrue)
-        .value_parser(value_parser!(bool))
-}
-
-/// One of the widths.
-fn widths<'a>() -> ValueParser<'a>
-    ensures { (widths : _) × AreWidths widths × (result ≡ ValueParser.Names widths) }
-{
-    WIDTHS.as_slice().into()
-}
-
-/// Whole numbers from 1 to `most`.
-fn up_to<'a>(most: u32) -> ValueParser<'a>
-    ensures { result ≡ up_to most }
-{
-    ValueParser::signed(1, i64::from(most))
 }

@@ -1,6 +1,6 @@
 -- What a parse that succeeds found of the options of a command that has no subcommands.
-use Rattle.std.proofs.Common.{zero, suc, ◌≡◌, ◌∙◌, ◌<◌, ◌≤◌, ◌&&◌, ℕ, Bool, true, false, true≢false, not, List, [], ◌∷◌, length, Option, Some, None, is_some, refl, sym, ap, subst, inl, inr, arith}
-use Rattle.std.specs.List.{All, list_all, slice_index_or}
+use Rattle.std.proofs.Common.{zero, suc, ◌≡◌, ◌⊎◌, ◌∙◌, ◌<◌, ◌≤◌, ◌&&◌, ◌||◌, ℕ, Bool, true, false, true≢false, not, List, [], ◌∷◌, length, Option, Some, None, is_some, refl, sym, ap, subst, inl, inr, arith}
+use Rattle.std.specs.List.{All, list_all, list_any, slice_index_or}
 use Rattle.std.specs.Str.{bytes_eq}
 use Rattle.std.specs.Prelude.{IfSome, codes, map, option_and_then, option_map, slice_get}
 use Rattle.std.specs.Borrow.{Bor}
@@ -19,17 +19,19 @@ use Rattle.clap.specs.declared.builder.command.Command.{Command}
 use Rattle.clap.specs.declared.builder.value_parser.Reading.{Reading}
 use Rattle.clap.specs.declared.builder.value_parser.Reading.TheVariants.{AsWritten}
 use Rattle.clap.specs.declared.builder.value_parser.ValueParser.{ValueParser}
+use Rattle.clap.specs.declared.builder.value_parser.ValueParser.TheVariants as parser
 use Rattle.clap.specs.declared.parser.matches.ArgMatches.{ArgMatches}
 use Rattle.clap.specs.declared.parser.matches.Found.{Found}
 use Rattle.clap.specs.declared.parser.matches.MatchedArg.{MatchedArg}
 use Rattle.clap.proofs.CallerLemmas.{default_present, required_has_value}
 use Rattle.clap.proofs.FaultLemmas.{free_args}
 use Rattle.clap.proofs.SimpleLemmas.{all_simple, ready_simple, simple_groups}
-use Rattle.clap.proofs.WalkLemmas.{both}
-use Rattle.ispc_options.specs.Asked.{option_or, up_to}
+use Rattle.clap.proofs.WalkLemmas.{both, list_any-map}
+use Rattle.ispc_options.specs.Asked.{AreWidths, command_of, option_or, up_to, width_text}
 use Rattle.ispc_options.specs.Passed.{HasNumber}
+use Rattle.ispc_options.specs.declared.options.Width.{Width}
+use Rattle.ispc_options.specs.declared.options.Width.TheVariants.{Four, Eight, Sixteen}
 use Rattle.ispc_options.proofs.Given.{entry_found, has_values, values_pass, values_read}
-use Rattle.desk_options.specs.Commands.{command_of}
 
 rule_at : (xs : List Arg) (k : ℕ) (d : Arg) → k < length xs → rule_of (slice_index_or xs k d) ≡ slice_index_or (map rule_of xs) k (rule_of d)
 rule_at [] k d lt = absurd (omega arith)
@@ -80,6 +82,36 @@ first_plain : (vs : List (Bor Text)) (how : Reading) → how ≡ AsWritten → (
     × IfSome (option_map (λ s. s.now) (slice_get vs 0)) P
 first_plain [] how plain P all = (refl, tt)
 first_plain (v ∷ vs) how plain P all = (ap (λ h. Some (read_as h v.now)) plain, all 0 v (omega arith))
+
+-- a text that is one of the widths
+which_width : (t : Text) → list_any (λ n. bytes_eq n t) (codes "4" ∷ codes "8" ∷ codes "16" ∷ []) ≡ true → (w : Width) × (t ≡ width_text w)
+which_width t one = go (bytes_eq (codes "4") t) (bytes_eq (codes "8") t) (bytes_eq (codes "16") t) refl refl refl one
+  where
+    same : (s : Text) → bytes_eq s t ≡ true → t ≡ s
+    same s e = sym ((bytes_eq-Decides s t).0 e)
+
+    go : (a b c : Bool) → bytes_eq (codes "4") t ≡ a → bytes_eq (codes "8") t ≡ b → bytes_eq (codes "16") t ≡ c
+        → (a || (b || (c || false))) ≡ true → (w : Width) × (t ≡ width_text w)
+    go true b c is_4 is_8 is_16 one = (Four, same _ is_4)
+    go false true c is_4 is_8 is_16 one = (Eight, same _ is_8)
+    go false false true is_4 is_8 is_16 one = (Sixteen, same _ is_16)
+    go false false false is_4 is_8 is_16 one = absurd (true≢false (sym one))
+
+which_flag : (t : Text) → (bytes_eq t (codes "true") || bytes_eq t (codes "false")) ≡ true → (t ≡ codes "true") ⊎ (t ≡ codes "false")
+which_flag t one = go (bytes_eq t (codes "true")) refl one
+  where
+    go : (b : Bool) → bytes_eq t (codes "true") ≡ b → (b || bytes_eq t (codes "false")) ≡ true → (t ≡ codes "true") ⊎ (t ≡ codes "false")
+    go true is one = inl ((bytes_eq-Decides t (codes "true")).0 is)
+    go false is one = inr ((bytes_eq-Decides t (codes "false")).0 one)
+
+pub which_flags : (o : Option Text) → IfSome o (Accepts false parser.Bool) → IfSome o (λ t. (t ≡ codes "true") ⊎ (t ≡ codes "false"))
+which_flags None one = tt
+which_flags (Some t) one = which_flag t one
+
+-- a text that passed among the widths
+pub one_of_the_widths : (widths : Bor (List (Bor Text))) → AreWidths widths → (t : Text) → Accepts false (parser.Names widths) t → (w : Width) × (t ≡ width_text w)
+one_of_the_widths widths are t passed = which_width t
+    (sym (ap (list_any (λ n. bytes_eq n t)) are) ∙ (sym (list_any-map (λ n. bytes_eq n t) (λ (s : Bor Text). s.now) widths.now) ∙ passed))
 
 some_text : (o : Option Text) → is_some o ≡ true → (t : Text) × (o ≡ Some t)
 some_text (Some t) is = (t, refl)
@@ -173,9 +205,9 @@ module _ (name : Text) (rules : List Rule) (ready : is_ready (command_of name ru
         (ap (λ (r : Rule). r.required) asked_is ∙ required) (action_is set) arg.delimiter (takes_one range) unique has_name own in
         some_text _ (subst (λ t. is_some (first_value found t) ≡ true) id_is has)
 
-    module _ (q : ValueParser) (parser : rule.parser ≡ Some q) where
+    module _ (q : ValueParser) (read_by : rule.parser ≡ Some q) where
       parser_is : asked.value_parser ≡ Some q
-      parser_is = ap (λ (r : Rule). r.parser) asked_is ∙ parser
+      parser_is = ap (λ (r : Rule). r.parser) asked_is ∙ read_by
 
       passes : (x : MatchedArg) → matched_of found asked.id.now ≡ Some x → All (λ v. Accepts rule.ignore_case q v.now) x.vals.items
       passes x there = subst (λ b. All (λ v. Accepts b q v.now) x.vals.items) (ap (λ (r : Rule). r.ignore_case) asked_is)
