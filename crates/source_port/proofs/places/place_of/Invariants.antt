@@ -1,5 +1,0 @@
-use Rattle.source_port.specs.Places.{IsColumn}
-use Rattle.source_port.proofs.places.place_of.Given as goal
-
-abbrev pub invariant-loop-i : goal.invariant-loop-i
-invariant-loop-i l = IsColumn l.text l.i l.column
