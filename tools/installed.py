@@ -5,11 +5,12 @@ import shutil
 
 PROMPT = "rinddecade-debug"
 PROMPT_TEXT = """#!/bin/sh
-# `rinddecade debug` with line editing: rlwrap keeps a history of lines and completes files and commands. Pages are as high as the terminal.
+# `rinddecade debug` with line editing, where the terminal can: rlwrap keeps a history of lines and completes files and commands. Pages are as
+# high as the terminal.
 LINES=${LINES:-$(tput lines 2> /dev/null || echo 24)}
 export LINES
 folder=$(dirname "$(readlink -f "$0")")
-if command -v rlwrap > /dev/null; then
+if [ "${TERM:-dumb}" != dumb ] && command -v rlwrap > /dev/null; then
     exec rlwrap -c -b '[]=' -f "$folder/../share/rinddecade/rinddecade.words" "$folder/rinddecade" debug "$@"
 fi
 exec "$folder/rinddecade" debug "$@"
