@@ -78,8 +78,8 @@ class Looks(Debugger):
         return len(self.source_lines) - (self.source_lines[-1] == "")
 
     def list_on(self):
-        """The lines around the place, or the next ones behind those that were listed."""
-        return self.list_from(self.listed[1] if self.listed else self.spot()[0][0] - LISTED // 2)
+        """The lines around the place of the frame that is selected, or the next ones behind those that were listed."""
+        return self.list_from(self.listed[1] if self.listed else self.standing().place[0] - LISTED // 2)
 
     def list_before(self):
         """The lines before those that were listed."""
@@ -234,7 +234,7 @@ class Looks(Debugger):
         number = int(number)
         if not 0 <= number < len(self.state.frames):
             return ["there is no such frame; `where` lists them"]
-        self.selected = number
+        self.selected, self.listed = number, None
         return self.frame_shown()
 
     def up(self, count):
