@@ -14,6 +14,7 @@ import threading
 from .adapter_members import (
     EVENTS, MEMBERS, NUMBER, QUIET, TEXT, THREAD, TRUTH, VARIABLE, Wrong, need, need_body, need_capabilities, need_members, need_stop, same,
 )
+from .adapter_before import BEFORE_CHECKS
 from .adapter_children import CHILD_CHECKS
 from .adapter_conditions import CONDITION_CHECKS
 from .adapter_formats import FORMAT_CHECKS
@@ -24,8 +25,10 @@ from .adapter_launches import LAUNCH_CHECKS
 from .adapter_logs import LOG_CHECKS
 from .adapter_moves import MOVE_CHECKS
 from .adapter_programs import PROGRAM_CHECKS
+from .adapter_restarts import RESTART_CHECKS
 from .adapter_targets import TARGET_CHECKS
 from .adapter_values import VALUE_CHECKS
+from .adapter_watched import WATCHED_CHECKS
 from .adapter_words import WORD_CHECKS
 from .tried import Result
 
@@ -404,6 +407,8 @@ INCOMPLETE = [
     ("scopes", {}, "frameId"),
     ("scopes", {"frameId": "1"}, "frameId"),
     ("dataBreakpointInfo", {"variablesReference": 2}, "name"),
+    ("dataBreakpointInfo", {"name": "x", "variablesReference": "2"}, "variablesReference"),
+    ("dataBreakpointInfo", {"name": "x", "variablesReference": 2, "frameId": "1"}, "frameId"),
     ("variables", {}, "variablesReference"),
     ("variables", {"variablesReference": "1"}, "variablesReference"),
     ("setVariable", {"name": "x", "value": "7"}, "variablesReference"),
@@ -454,7 +459,7 @@ def wrong_requests(client, examples):
     client.end()
 
 
-CHECKS = [steps_and_back, watches, breaks, locations, variables, frames, faults, filters, the_end, wrong_requests, *FRAME_CHECKS, *LANE_CHECKS, *LAUNCH_CHECKS, *LOG_CHECKS, *VALUE_CHECKS, *TARGET_CHECKS, *CHILD_CHECKS, *FORMAT_CHECKS, *MOVE_CHECKS, *CONDITION_CHECKS, *FUNCTION_CHECKS, *PROGRAM_CHECKS, *WORD_CHECKS]
+CHECKS = [steps_and_back, watches, breaks, locations, variables, frames, faults, filters, the_end, wrong_requests, *FRAME_CHECKS, *LANE_CHECKS, *LAUNCH_CHECKS, *LOG_CHECKS, *VALUE_CHECKS, *TARGET_CHECKS, *CHILD_CHECKS, *FORMAT_CHECKS, *MOVE_CHECKS, *CONDITION_CHECKS, *FUNCTION_CHECKS, *RESTART_CHECKS, *WATCHED_CHECKS, *PROGRAM_CHECKS, *WORD_CHECKS, *BEFORE_CHECKS]
 
 
 def check(root, command):

@@ -200,7 +200,7 @@ def at_the_start(client, examples):
 
 
 def restarts(client, examples):
-    """A restart keeps the conditions, by the new numbers, and the counts begin anew."""
+    """A restart keeps the conditions and the numbers, and the counts begin anew."""
     with written(SOURCE) as path:
         launched(client, path, (X, {}), (ODD, {}), stopOnEntry=False)
         made = ask(client, (X, {"condition": "i == 31"}), (ODD, {"condition": "i > 9", "hitCondition": "6"}))
@@ -208,12 +208,11 @@ def restarts(client, examples):
         hit(client, client.begin(), 4, ODD, 15)
         hit(client, client.move("continue"), 4, ODD, 16)
         client.ask("restart")
-        # Their numbers are 1 and 2 then.
-        hit(client, client.event("stopped"), 2, ODD, 15)
+        hit(client, client.event("stopped"), 4, ODD, 15)
         ask(client, (X, {"condition": "i == 31"}))
-        hit(client, client.move("continue"), 3, X, 31)
+        hit(client, client.move("continue"), 5, X, 31)
         client.ask("restart")
-        hit(client, client.event("stopped"), 1, X, 31)
+        hit(client, client.event("stopped"), 5, X, 31)
         client.end()
 
 

@@ -201,7 +201,7 @@ def of_watches(client, examples):
 
 
 def restarts(client, examples):
-    """A restart keeps them with their terms, by the new numbers, and still tells them from those of lines."""
+    """A restart keeps them with their terms and their numbers, and still tells them from those of lines."""
     with written(SOURCE) as path:
         client.launch(path, stopOnEntry=False)
         ask(client, (SUM, {}))
@@ -211,14 +211,14 @@ def restarts(client, examples):
         same((line, function, number), (2, 3, 4))
         hit(client, client.begin(), function, TWICE, 2)
         client.ask("restart")
-        # Their numbers are 1, 2 and 3 then, and the count begins anew.
-        hit(client, client.event("stopped"), 2, TWICE, 2)
-        hit(client, client.move("continue"), 2, TWICE, 3)
-        changed(client, client.move("continue"), 3, 3)
+        # Their numbers are the same, and the count begins anew.
+        hit(client, client.event("stopped"), function, TWICE, 2)
+        hit(client, client.move("continue"), function, TWICE, 3)
+        changed(client, client.move("continue"), number, 3)
         same(functions(client), [])
         same(listed(client), 2)
         stop = client.move("continue")
-        same((stop["hitBreakpointIds"], client.value("i")), ([1], "12"))
+        same((stop["hitBreakpointIds"], client.value("i")), ([line], "12"))
         client.end()
 
 
@@ -239,20 +239,20 @@ def move_with_their_functions(client, examples):
         hit(client, client.move("continue"), 3, NOTHING + 3, 4)
         hit(client, client.move("continue"), 2, TWICE + 3, 5)
         same(listed(client), 3)
-        # Of another name: the other's number is 2, and its count its own.
+        # Of another name: the other's number and its count are its own.
         path.write_text(SOURCE.replace("twice", "doubled"))
         client.ask("restart")
-        hit(client, client.event("stopped"), 2, NOTHING, 3)
+        hit(client, client.event("stopped"), 3, NOTHING, 3)
         same(listed(client), 2)
         # The breakpoint of the line has kept its line and its condition.
         for i in range(4, 9):
-            hit(client, client.move("continue"), 2, NOTHING, i)
+            hit(client, client.move("continue"), 3, NOTHING, i)
         stop = client.move("continue")
         same((stop["hitBreakpointIds"], client.place()[0][0], client.value("i")), ([1], SUM, "9"))
         # One that has gone does not come back by itself.
         path.write_text(SOURCE)
         client.ask("restart")
-        hit(client, client.event("stopped"), 2, NOTHING, 3)
+        hit(client, client.event("stopped"), 3, NOTHING, 3)
         same([it["line"] for it in functions(client, "twice")], [TWICE])
         same(listed(client), 2)
         client.end()

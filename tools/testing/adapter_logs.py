@@ -152,7 +152,7 @@ def of_braces(client, examples):
 
 
 def restarts(client, examples):
-    """A restart keeps the texts, by the new numbers, and their counts begin anew."""
+    """A restart keeps the texts and the numbers, and their counts begin anew."""
     with of_rounds(ROUNDS) as path:
         launched(client, path, (TOTAL, {}), (X, {}), stopOnEntry=False)
         made = ask(client, (TOTAL, {"condition": "i == 3"}), (X, {"logMessage": "{i}", "hitCondition": "2"}), (X, {"logMessage": "also {i}"}))
@@ -161,7 +161,7 @@ def restarts(client, examples):
         at(client, begins(client, *texts), 3, TOTAL, 3)
         client.ask("restart")
         writes(client, *texts)
-        at(client, client.event("stopped"), 1, TOTAL, 3)
+        at(client, client.event("stopped"), 3, TOTAL, 3)
         client.end()
 
 

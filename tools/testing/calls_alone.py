@@ -115,10 +115,10 @@ NONE_TAKEN = {
 }
 # These show on their page that memory was wanting: hostile.py refuses the first each of its allocations, and it calls the others.
 ON_A_PAGE = {"debug_prompt::Dialogue::do_first", "debug_prompt::Dialogue::do_line", "debug_prompt::Prompt::do_line", "prompt_texts::show_arguments", "prompt_texts::show_full_frames", "prompt_texts::show_locals"}
-# These are made by `tokens`, by `pure_functions`, by `check`, by `Accesses::of` and by `run`.
-INNER = {"ispc_lexer::first_step", "lane_pure::Found::none", "lane_pure::Found::others", "type_check::typed_program", "element_accesses::StepRows::new", "element_accesses::StepRows::put", "ispc_debugger::run_over"}
+# These are made by `tokens`, by `pure_functions`, by `check`, by `Accesses::of`, by `run` and by `read_options`.
+INNER = {"ispc_lexer::first_step", "lane_pure::Found::none", "lane_pure::Found::others", "type_check::typed_program", "element_accesses::StepRows::new", "element_accesses::StepRows::put", "ispc_debugger::run_over", *(f"ispc_options::{it}" for it in ("flag", "option", "option_or", "valued"))}
 # The parts of a layer, whose calls are made by those of the crate with the plain name; and the crates of tests.
-PARTS = re.compile(r"(ispc_parser|ispc_names|type_check|tests)_\w+")
+PARTS = re.compile(r"(ispc_parser|ispc_names|type_check|port|tests)_\w+")
 
 CALL = re.compile(r"^(?P<indent> *)pub fn (?P<name>\w+)(<[^(]*>)?\(\s*(&\w* ?\w+,\s*)?(&mut self,\s*)?alloc: Global\b", re.M)
 SUBJECT = re.compile(r"^impl(<.*?>)? (\w+ for )?(?P<name>\w+)", re.M)

@@ -28,6 +28,16 @@ ECHOED = MOST_TYPED - len("echo ")
 # What is written to files as it is on standard output.
 TO_FILES = (["page"], ["profile"], ["profile", "--json"], ["profile", "--compare"], ["port"])
 
+# What each verb writes, and what is told where it holds something else.
+MADE = {"picture": b"picture", "page": b"page", "profile": b"profile", "port": b"text"}
+HELD = {"picture": b" other than a picture", "page": b" other than a page of a run", "profile": b"", "port": b""}
+
+# What a picture does not watch, and why.
+NO_NAME, NO_TARGET = b"--watch: the source has no variable ", b'--watch takes a variable, or a lane or an element of one as "x[2]", and not '
+UNWATCHED = {"nope": NO_NAME + b"nope", "nope[1]": NO_NAME + b"nope", "": NO_TARGET, "x + 1": NO_TARGET + b"x + 1", "x y": NO_TARGET + b"x y", "x[1": NO_TARGET + b"x[1"}
+# What `explain` explains, by the headings of docs/REFUSALS.md.
+EXPLAINED = b"error: there are S1 to S13, E1, E2, I1 to I4, F1 to F5 and C1 to C12, but no "
+
 # So many exported functions are listed.
 NAMED = 12
 
@@ -93,7 +103,8 @@ def wrong_words():
     wrong += [["debug", "first.ispc", *it] for it in run] + [["picture", "first.ispc", *it] for it in run + picture]
     wrong += [["profile", "first.ispc", "--from", "0"], ["profile", "first.ispc", "--color"], ["debug", "first.ispc", "--from", "2"], ["debug", "first.ispc", "--row", "2"]]
     told = begins_with(b"error: ")
-    return [Run(f"wrong: {' '.join(words)}", b"", words, b"", told, 2, FILES) for words in wrong]
+    found = [Run(f"wrong: {' '.join(words)}", b"", words, b"", told, 2, FILES) for words in wrong]
+    return found + [Run(f"wrong: --watch {name}", b"", ["picture", "first.ispc", "--watch", name], b"", b"error: " + why + b"\n", 2, FILES) for name, why in UNWATCHED.items()]
 
 
 def refused_programs():
@@ -172,6 +183,7 @@ def unread_files():
         told("a source that is not there", ["missing.ispc"], b"cannot read missing.ispc: there is no such file\n", {}),
         told("a source that is a folder", ["folder"], b"cannot read folder: it is a directory\n", folder),
         told("a source within a file", ["first.ispc/go.ispc"], b"cannot read first.ispc/go.ispc: a part of its path is no directory\n", FILES),
+        told("a source whose name is too long", ["x" * 300], b"cannot read %s: its name is too long\n" % (b"x" * 300), {}),
         told("an input that is not there", ["first.ispc", "--input", "no.input"], b"cannot read no.input: there is no such file\n", FILES),
         told("a name with controls", ["\x1b[31m.ispc"], b"cannot read ?[31m.ispc: there is no such file\n", {}),
         Run(
@@ -223,12 +235,12 @@ def pages():
     named = [["S7"], ["s7"], ["rate"], ["S7 Rate"], ["3:5: S7 Rate"], ["3:5:", "S7", "Rate"], ["S7:"], ["no", "S7"]]
     found = [Run(f"explain {' '.join(words)!r}", b"", ["explain", *words], begins_with(b"S7 Rate\n\n"), b"") for words in named]
     line = ["explain", "fault F1 DivideByZero lane 1: at 3:5 go depth 1 lanes 1111"]
-    unknown = begins_with(b"error: there are S1 to S13, ")
     return [
         *found,
         Run("explain an answer", b"", line, begins_with(b"F1 DivideByZero\n\n"), b""),
-        Run("explain another name", b"", ["explain", "nothing"], b"", unknown, 2),
-        Run("explain no name", b"", ["explain", ""], b"", unknown, 2),
+        Run("explain another name", b"", ["explain", "nothing"], b"", EXPLAINED + b"nothing\n", 2),
+        Run("explain several other names", b"", ["explain", "S14", "F6", "C13"], b"", EXPLAINED + b"S14\n", 2),
+        Run("explain no name", b"", ["explain", ""], b"", EXPLAINED + b"\n", 2),
     ]
 
 
@@ -292,8 +304,18 @@ def of_written_files(built):
     ]
     found = [written(built, name, words, file, before, front) for name, words, file, before, front in rows]
     found += [linked(built, verb, link) for verb in ("picture", "page", "profile", "port") for link in (os.symlink, os.link)]
-    found += [ended_by_two(built), written_twice(built, "new.svg"), written_twice(built, "new.html"), folder_as_file(built)]
+    found += [ended_by_two(built), returned(built), written_twice(built, "new.svg"), written_twice(built, "new.html"), folder_as_file(built)]
     return found + [as_on_output(built, words) for words in TO_FILES]
+
+
+def over_made(verb, path):
+    """Why a file is not written over that something is made from."""
+    return b"error: the %s would be written over what it is made from: %s\n" % (MADE[verb], path.encode())
+
+
+def over_held(verb, path):
+    """Why a file is not written over that holds something."""
+    return b"error: only --force writes over a file that holds something%s: %s\n" % (HELD[verb], path.encode())
 
 
 def drawn(built, folder, words):
@@ -310,7 +332,9 @@ def written(built, name, words, file, before, front):
         ran = drawn(built, folder, words)
         after = path.read_bytes()
     if front is None:
-        is_right = ran.returncode == 2 and ran.stderr.startswith(b"error: ") and after == before
+        path = words[words.index("--to") + 1]
+        told = (over_made if file in ("first.ispc", "go.commands") else over_held)("picture", path)
+        is_right = (ran.returncode, ran.stderr, after) == (2, told, before)
     else:
         is_right = (ran.returncode, ran.stdout, ran.stderr) == (0, b"", b"") and after.startswith(front)
     return Result(f"a picture to {name}", is_right, [f"status {ran.returncode}, {ran.stderr!r}, {after[:100]!r}"])
@@ -323,7 +347,7 @@ def linked(built, verb, link):
         path.write_bytes(FIRST)
         link(path, pathlib.Path(folder, "other.svg"))
         ran = subprocess.run([built, verb, "first.ispc", "--to", "other.svg", "--force"], cwd=folder, env={}, stdin=subprocess.DEVNULL, capture_output=True)
-        is_right = ran.returncode == 2 and ran.stderr.startswith(b"error: ") and path.read_bytes() == FIRST
+        is_right = (ran.returncode, ran.stderr, path.read_bytes()) == (2, over_made(verb, "other.svg"), FIRST)
     return Result(f"{verb} over another name of its source, made by {link.__name__}", is_right, [f"status {ran.returncode}, {ran.stderr!r}"])
 
 
@@ -335,6 +359,16 @@ def ended_by_two(built):
             pathlib.Path(folder, "first.ispc").write_bytes(text)
             pages.append(subprocess.run([built, "page", "first.ispc"], cwd=folder, env={}, stdin=subprocess.DEVNULL, capture_output=True).stdout)
     return Result("a page of lines that end by two characters", pages[0] == pages[1] != b"", [f"{len(it)} bytes" for it in pages])
+
+
+def returned(built):
+    """A carriage return within a line stays in the source of a page, as another control does: both are shown by the mark of what is no text."""
+    with tempfile.TemporaryDirectory(prefix="desk-") as folder:
+        pathlib.Path(folder, "first.ispc").write_bytes(b"export void go() {\r\n    int x = 1;\r// \x07\r\r\n}\n")
+        page = subprocess.run([built, "page", "first.ispc"], cwd=folder, env={}, stdin=subprocess.DEVNULL, capture_output=True).stdout
+    mark = "\ufffd".encode()
+    wanted = b'"source":"export void go() {\\n    int x = 1;' + mark + b"// " + mark * 2 + b'\\n}\\n"'
+    return Result("a page of a line with a carriage return", wanted in page, [f"{len(page)} bytes have not {wanted!r}"])
 
 
 def written_twice(built, file):
@@ -375,6 +409,7 @@ def as_on_output(built, words):
                 path.write_bytes(before)
             ran = called(folder, "--to", file, *force)
             after = path.read_bytes() if path.exists() else None
-            is_right = (ran.returncode, ran.stderr, after) == (0, b"", whole) if is_written else ran.returncode == 2 and ran.stderr.startswith(b"error: ") and after == before
+            told = (over_made if file == "first.ispc" else over_held)(verb, file)
+            is_right = (ran.returncode, ran.stderr, after) == ((0, b"", whole) if is_written else (2, told, before))
             why += [] if is_right and ran.stdout == b"" else [f"{file} {' '.join(force)}: status {ran.returncode}, {ran.stderr!r}, {(after or b'')[:100]!r}"]
     return Result(f"files as standard output: {' '.join(words)}", not why, why)

@@ -76,6 +76,9 @@ export void go() {
 }
 """
 
+# The same to depth 15, and the depth from which on the ground stays as dark.
+DEEPEST, DARKEST = DEEP.replace("r > 5", "r > 13"), 8
+
 HALT = "export void go() {\n    int x = 7;\n    x = x / (programIndex - 6);\n}\n"
 
 # Lanes that wait over several rows of a loop, in the loop and behind it.
@@ -228,7 +231,7 @@ def seen_of(name, source, width, target, most, first, row):
         try:
             debugger.forward()
         except Fault as fault:
-            seen["fault"] = [f"{fault.name} in lane {fault.lane}"]
+            seen["fault"] = [(f"{fault.name} in lane {fault.lane}", [(step, fault.lane)])]
             end = f"fault {fault.name} lane {fault.lane} at step {step}"
     shown = [range(min(it), max(it) + 1) for it in lines] if len(lines) > 1 else [range(1, source.count("\n") + 1)]
     seen["lines"] = [(at, it) for at, of_row in enumerate(shown) for it in of_row]
@@ -301,7 +304,7 @@ def shown_in(text):
             (rows.of(it), step_at(it, int(it.get("x"))), tops[rows.of(it)].index(int(it.get("y"))), *word_of(it, inks)) for it in at(values, "middle")
         ),
         "rows": [(rows.of(it), *word_of(it, inks)) for it in at(values, "end")],
-        "fault": [it.text for it in tree.iter(f"{SVG}title") if " in lane " in it.text],
+        "fault": faults_in(tree, marks),
         "end": texts[-1].text,
     }
     return said, wrong + legend_faults(tree, marks, rows) + shade_faults(tree)
@@ -383,6 +386,13 @@ def depths_in(tree):
     return [(it, int(title.text.split()[1])) for it, title in titled if title is not None and title.text.startswith("depth ")]
 
 
+def faults_in(tree, marks):
+    """The red dots, each with its title, and the steps and lanes of the marks under it."""
+    dots = [it for it in tree.iter(f"{SVG}circle") if it.find(f"{SVG}title") is not None and " in lane " in it.find(f"{SVG}title").text]
+    under = lambda it: [(mark.step, mark.lane) for mark in marks if (mark.x, mark.y) == (int(it.get("cx")), int(it.get("cy")))]
+    return [(it.find(f"{SVG}title").text, under(it)) for it in dots]
+
+
 def legend_faults(tree, marks, rows):
     """What is wrong with the names of the lanes: each has the colours of its marks, and no two the same; none is at a step's number."""
     texts = [it for it in tree if it.tag == f"{SVG}text" and rows.is_above(it)]
@@ -399,9 +409,11 @@ def legend_faults(tree, marks, rows):
 
 
 def shade_faults(tree):
-    """What is wrong with the grounds of steps in calls: a deeper one is darker."""
-    shades = [shade for _, shade in sorted({(depth, float(it.get("fill-opacity"))) for it, depth in depths_in(tree)})]
-    return [] if shades == sorted(set(shades)) else ["a deeper call is not darker"]
+    """What is wrong with the grounds of steps in calls: a deeper one is darker, up to depth 8, and none so dark that the lines on it are not read."""
+    found = sorted({(depth, float(it.get("fill-opacity"))) for it, depth in depths_in(tree)})
+    shades, deepest = [shade for depth, shade in found if depth <= DARKEST], {shade for depth, shade in found if depth >= DARKEST}
+    wrong = [] if shades == sorted(set(shades)) else ["a deeper call is not darker"]
+    return wrong + ([] if len(deepest) <= 1 and all(shade < 0.5 for shade in [*shades, *deepest]) else ["a deep call is too dark"])
 
 
 def is_meant(name, source, width, target, most, first, row):
@@ -428,6 +440,7 @@ def meant_runs():
         *(meant_run("lanes.ispc", LANES, 4, "x", most) for most in [1, 3, 7]),
         meant_run("halt.ispc", HALT, 8, "x"),
         *(meant_run("lanes.ispc", LANES, width, "x", row=row) for width in (4, 8, 16) for row in (1, 4, 9)),
+        *(meant_run("deepest.ispc", DEEPEST, width, "r", row=row) for width, row in [(4, 60), (16, 11)]),
         *(meant_run("deep.ispc", DEEP, width, "r", first=first, row=row) for width, first, row in [(4, 4, 5), (8, 9, 60), (16, 2, 7)]),
         *(meant_run("long.ispc", LONG, width, "x", most, first, row) for width, most, first, row in OF_LONG),
         *(meant_run("halt.ispc", HALT, 8, "x", first=2, row=row) for row in (1, 2)),

@@ -13,7 +13,7 @@ import re
 import subprocess
 import tempfile
 
-from . import desk, kernels, porting
+from . import desk, kernels, ported_parts, porting
 from .calls import side_by_side
 from .tried import Result
 
@@ -89,7 +89,7 @@ REFUSED = [
     ("float f(float x) { return x; }\n", "1:1", "this type is not read"),
     ("export void go() { float x = 1; }\n", "1:20", "this type is not read"),
     ("export void go() { int x = 1.5; }\n", "1:28", "floating-point"),
-    ("struct P { int x; };\n", "1:1", "not read"),
+    ("struct P { int x; };\n", "1:1", "this type is not read"),
     ("export void go() { int *p; }\n", "1:24", "pointers"),
     ("void f(int &x) { }\n", "1:12", "references"),
     ("export void go() { int<4> v; }\n", "1:23", "short vectors"),
@@ -101,22 +101,37 @@ REFUSED = [
     ("export void go() { int i = 0; i = i++; }\n", "1:35", "named elsewhere"),
     ("export void go() { int i = 0; int j = i + i++; }\n", "1:43", "named elsewhere"),
     ("int f(int x) { return x; }\nuniform int f(uniform int x) { return x; }\nexport void go() { int y = 1 + f(2); }\n", "3:32", "different types"),
-    ("int f(int x) { return x; }\nexport void go() { int x = 0; do { continue; } while (f(x)); }\n", "2:48", "continue"),
-    ("export void go() { for (int i = 0, j = 0; i < 3; i++, j++) continue; }\n", "1:50", "continue"),
+    ("int f(int x) { return x; }\nexport void go() { int x = 0; do { continue; } while (f(x)); }\n", "2:48", "the test of this loop"),
+    ("export void go() { for (int i = 0, j = 0; i < 3; i++, j++) continue; }\n", "1:50", "the step of this loop"),
     ("void f(int a[]) { }\nexport void go() { int b[4]; f(b); }\n", "2:32", "of which each lane has its own"),
     ("export void go() { int x = (1, 2); }\n", "1:30", "comma"),
     ("uniform int a[0];\n", "1:15", "elements"),
-    ("uniform int n = 1 << 40;\n", "1:17", "constant"),
+    ("uniform int n = 1 << 40;\n", "1:17", "a constant with at most"),
     ("uniform int a[2] = { 1, 2, 3 };\nexport void go() { }\n", "1:28", "more than the array has"),
     ("uniform int a[1] = { 1 };\nexport void go() { }\nvoid f() { go(); }\n", "1:13", "exported function is called"),
-    ("export void go() { goto done; }\n", "1:20", "not read"),
-    ("export void go() { (1 + 2; }\n", "1:28", "bracket"),
+    ("export void go() { goto done; }\n", "1:20", "this form is not read"),
+    ("export void go() { (1 + 2; }\n", "1:28", "this bracket"),
     ("export void go() { x = 1 }\n", "1:26", "no statement"),
     ("/* never closed\n", "1:1", "comment"),
     ("export void go() { int c = ''; }\n", "1:28", "character"),
     ("export void go() { int x = 1 @ 2; }\n", "1:30", "no word, number or mark"),
     ("export void go() { int x = " + "(" * 70 + "1" + ")" * 70 + "; }\n", "1:91", "64 brackets"),
 ]
+
+
+# Names of a source, and the name of the variable that gets the value of a call of `f` beside them: behind it stand as many lines below as
+# no name of the source has before a number at its end.
+NAMED = [
+    ("z", "f_1"),
+    ("z_", "f_1"),
+    ("z__", "f_1"),
+    ("z9", "f_1"),
+    ("z_9", "f__1"),
+    ("z9_", "f_1"),
+    ("z__12", "f___1"),
+    ("z_1_2", "f__1"),
+]
+CALLS = "int f(int x) { return x; }\nexport void go() { int %s = 1 + f(2); }\n"
 
 
 class Port:
@@ -235,14 +250,23 @@ def gives(port, it):
         return Result(f"port {lines}", not why, why)
 
 
+def named(port, it):
+    """Whether a fresh variable has a name beside one of the source."""
+    name, wanted = it
+    with tempfile.TemporaryDirectory(prefix="port-") as folder:
+        text, errors, status = port.port((CALLS % name).encode(), folder)
+        found = sorted(set(re.findall(r"\bf_+\d+\b", text.decode())))
+        return Result(f"port names beside {name}", status == 0 and found == [wanted], [f"status {status}", *found, f"wanted: {wanted}", errors.decode(errors="replace")])
+
+
 def refused(port, it):
     """Whether a text is refused at a place."""
     text, place, words = it
     with tempfile.TemporaryDirectory(prefix="port-") as folder:
         output, errors, status = port.port(text.encode(), folder)
         first, _, shown = errors.decode(errors="replace").partition("\n")
-        is_right = status == 1 and not output and first.startswith(f"source.ispc:{place}: ") and words in first
-        why = [] if is_right else [f"status {status}", first, f"wanted: {place} {words}"]
+        wanted = [f"source.ispc:{place}: {it}" for it in ported_parts.SENTENCES if words in it]
+        why = [] if status == 1 and not output and first in wanted else [f"status {status}", first, f"wanted: {place} {words}"]
         why += [] if shown == mark_of(text, place) else ["another mark:", *shown.splitlines(), *mark_of(text, place).splitlines()]
         return Result(f"port refuses {text[:40]!r}", not why, why)
 
@@ -305,7 +329,8 @@ def files(port):
         why = []
         for words, status, wanted in steps:
             output, _, came = port.called(words, folder)
-            why += [] if (came, output, to.read_bytes()) == (status, b"", wanted) else [f"{' '.join(words)}: status {came}"]
+            written = to.read_bytes() if to.is_file() else None
+            why += [] if (came, output, written) == (status, b"", wanted) else [f"{' '.join(words)}: status {came}"]
         return Result("port --to", not why, why)
 
 
@@ -328,13 +353,20 @@ def sources(root):
     return sorted((root / "examples").glob("*.ispc")) + sorted((root / kernels.NAME).glob("*.ispc"))
 
 
-def results(root, program):
+def lists(root, program):
+    """The results, list by list, the quick ones first; last those of kernels that run."""
     port = Port(root, program)
     rows = [it for it in porting.Page(root).rows if not it.wrong(porting.names(root))]
-    tasks = [lambda it=it: spelled(port, *it) for it in spellings(root)] + [lambda it=it: same(port, it) for it in sources(root)]
-    tasks += [lambda it=it: row(port, it) for it in rows] + [lambda it=it: gives(port, it) for it in GIVES]
-    tasks += [lambda it=it: refused(port, it) for it in REFUSED] + [lambda it=it: hostile(port, it) for it in damaged(root)]
-    return side_by_side(lambda task: task(), tasks) + [files(port), shown_on_page(port, root)]
+    ours = [lambda it=it: gives(port, it) for it in GIVES] + [lambda it=it: refused(port, it) for it in REFUSED]
+    ours += [lambda it=it: named(port, it) for it in NAMED]
+    ours += [lambda it=it: row(port, it) for it in rows] + [lambda: files(port), lambda: shown_on_page(port, root)] + ported_parts.tasks(port, gives, refused)
+    ours += [lambda it=it: same(port, it) for it in sources(root)]
+    for tasks in (ours, [lambda it=it: hostile(port, it) for it in damaged(root)], [lambda it=it: spelled(port, *it) for it in spellings(root)]):
+        yield side_by_side(lambda task: task(), tasks)
+
+
+def results(root, program):
+    return [it for found in lists(root, program) for it in found]
 
 
 def check(root):

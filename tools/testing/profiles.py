@@ -384,6 +384,7 @@ def hostile_runs():
         Run("profile of lines that end by two characters", b"", ["profile", "mixed.ispc"], wanted_lines(counted, 20), b"", data=ends),
         Run("profile of lines that end by two characters, annotated", b"", ["profile", "mixed.ispc", "--annotate"], wanted_annotated(counted), b"", data=ends),
         Run("profile of a name with a quote", b"", ["profile", 'odd".ispc', "--json"], json_of('odd".ispc'), b"", data=data),
+        Run("profile of a name with controls", b"", ["profile", "odd\x7f\x1b\\.ispc", "--json"], json_of("odd??\\.ispc"), b"", data={"odd\x7f\x1b\\.ispc": EMPTY.encode()}),
     ]
 
 
@@ -419,7 +420,7 @@ def wrong_runs():
     found.append(Run("wrong profile: no source", b"", ["profile"], b"", begins_with(b"error: "), 2, FILES))
     found += [Run(f"wrong profile: {' '.join(it)}", b"", ["profile", "mixed.ispc", *it], b"", has_words(one), 2, FILES) for it in several]
     far = has_words(b"--from: the run ends before this step, or --steps is less")
-    found += [Run(f"wrong profile: {' '.join(it)}", b"", ["profile", "mixed.ispc", *it], b"", far, 2, FILES) for it in (["--from", "9999"], ["--from", "10000000", "--compare"])]
+    found += [Run(f"wrong profile: {' '.join(it)}", b"", ["profile", "mixed.ispc", *it], b"", far, 2, FILES) for it in (["--from", "9999"], ["--from", "10000000", "--compare"], ["--from", "10", "--steps", "8"])]
     by = has_words(b"--by takes line, function, form, access or parting, and not lanes")
     return [*found, Run("wrong profile: --by lanes", b"", ["profile", "mixed.ispc", "--by", "lanes"], b"", by, 2, FILES)]
 
@@ -455,6 +456,7 @@ def runs(root):
     own = runs_of("mixed", MIXED) + runs_of("empty", EMPTY) + runs_of("endless", ENDLESS, most=50)
     cut = [run for most in (1, 2, 7, 30) for run in runs_of("mixed", MIXED, most=most, widths=(8,))]
     late = [run for first in (2, 9, 23, 40, 61) for run in runs_of("mixed", MIXED, widths=(8,), first=first)] + runs_of("mixed", MIXED, most=12, first=30)
+    late += runs_of("mixed", MIXED, ["--steps", "8"], most=5, widths=(8,), first=9)
     own += [run for name, source in partings.SOURCES.items() for run in runs_of(name, source)] + partings.known_runs()
     own += [run for most in (9, 14, 21, 33) for run in runs_of("deep_partings", partings.SOURCES["deep_partings"], most=most, widths=(8,))]
     own += known_runs() + called_runs() + random_runs() + runs_of("forms", FORMED) + runs_of("deep", DEEP) + coloured_runs()

@@ -17,10 +17,11 @@ import subprocess
 import tempfile
 import tty
 
-from . import asking, digits, listing, numbering, printing, returning
+from . import asked_in_frames, asking, deep_frames, digits, listing, lists_behind_moves, numbering, past_the_end, printing, returning, told_reasons
 from .tried import Result, Run, differences, shown
 
 CRATE = "rinddecade"
+PARTS = (digits, printing, asking, returning, numbering, listing, past_the_end, deep_frames, lists_behind_moves, told_reasons, asked_in_frames)
 HEAD, LINES, LINE = "=== ", "%%", "> "
 PAGE = "docs/FROM_GDB.md"
 HABITS, LEADS_TO, SILENCE, USAGE = "sessions/prompts/typed.lines", " => ", "(silence)", b"the usage is"
@@ -159,7 +160,8 @@ def runs(root):
     """A run for each session, and one for each line that users of GDB type."""
     page = [Run(f"{PAGE}: {line}", as_bytes([line]), ["debug", "go.ispc"], is_known, b"", data={"go.ispc": SOURCE}) for line in typed(root)]
     habits = Habits(root)
-    return [it.run() for it in sessions(root)] + page + [habits.run(*row) for row in habits.rows] + [checkpoints(), *long_lines()] + digits.runs() + printing.runs() + asking.runs() + returning.runs() + numbering.runs() + listing.runs()
+    found = [it.run() for it in sessions(root)] + page + [habits.run(*row) for row in habits.rows] + [checkpoints(), *long_lines()]
+    return found + [run for it in PARTS for run in it.runs()]
 
 
 def checkpoints():

@@ -63,7 +63,7 @@ def in_colours(session):
 def results(built):
     ahead = [paged(built, f"{name}, typed at once", lines + b"quit\n", wanted, is_raw=True) for name, lines, wanted in PAGED[:-1]]
     pages = [paged(built, *row) for row in PAGED + OF_HEIGHTS] + ahead
-    return [coloured(built, *row) for row in WHERE] + pages + [of_lists(built), left(built), *profiled(built)]
+    return [coloured(built, *row) for row in WHERE] + pages + [of_lists(built), asked(built), left(built), *profiled(built)]
 
 
 # The environment, and whether a terminal then has colours.
@@ -123,6 +123,14 @@ def of_lists(built):
     count = text.count(b"       1  export void go() {\n")
     is_right = MORE not in text and count >= 5
     return Result("lines of breakpoints begin a page each", is_right, [f"{count} lists, {text[-300:]!r}"])
+
+
+def asked(built):
+    """Before each line of a list `>` is shown, of one within another too, and before each other line what asks for a command."""
+    lines = b"break 3\ncommands\nprint x\ncommands 1\nend\nend\nprint 1\n"
+    text = typed(built, BRANCHES, lines, {}, is_both=True)
+    wanted = PROMPT + b"lines for 1, up to a line `end`:\n" + b">" * 4 + PROMPT + b"1 = 1\n" + PROMPT
+    return Result("a terminal asks for the lines of a list", wanted in text, [f"it shows {text[-300:]!r}"])
 
 
 def left(built):

@@ -177,6 +177,29 @@ def of_entries(width):
     return "frames that are not yet entered", lines, wanted
 
 
+def of_ends(width):
+    """Three steps that leave the top frame: its watch ends with it, and that of the frame around it, which the line may have left; going back each
+    ends where its frame is not yet entered."""
+    lines = ["break 10 if n == 0", "run", "watch v", "up", "watch v", "up", "watch n", "step 3", "watch v", "goto 1", "watch x", "goto 3", "info watchpoints"]
+    # In the order in which they were made: of depth 4, 3 and 2. Behind the three steps depth 3 is that of the top frame.
+    wanted = [
+        ("breakpoint 1 at line 10",),
+        ("breakpoint 1:",),
+        ("watch 2: v, while this frame is there\n",),
+        ("#1  down at",),
+        ("watch 3: v, while this frame is there\n",),
+        ("#2  down at",),
+        ("watch 4: n, while this frame is there\n",),
+        ("watch 2 of v ends: its frame has been left\n", *(f"watch {it} ends: this line may have left its frame\n" for it in ("3 of v", "4 of n"))),
+        ("watch 5: v, while this frame is there\n",),
+        ("watch 5 of v ends: its frame is not yet entered here\n", "!has been left", "!may have left"),
+        ("watch 6: x, while this frame is there\n",),
+        ("!ends",),
+        ("6  watch, x, of the frame at depth 1\n",),
+    ]
+    return "frames that may have been left", lines, wanted
+
+
 def of_lines_that_lead_nowhere(width):
     """A watch of a frame stays where a line that leads to another moment is refused, or leads to this one; it ends with one that leads away."""
     lines = ["break 10 if n == 0", "run", "delete 1", "checkpoint", "watch v"]
@@ -243,7 +266,7 @@ def of_refusals(width):
 def runs():
     found = []
     for width in WIDTHS:
-        for part in (of_lanes, of_parts, of_frames, of_outer_frames, of_entries, of_lines_that_lead_nowhere, of_conditions, of_refusals):
+        for part in (of_lanes, of_parts, of_frames, of_outer_frames, of_entries, of_ends, of_lines_that_lead_nowhere, of_conditions, of_refusals):
             name, lines, wanted = part(width)
             typed = f"{MARK}\n" + "".join(f"{line}\n{MARK}\n" for line in lines)
             found.append(Run(f"watches of {name}, {width} lanes", typed.encode(), ["debug", NAME, "--width", str(width)], judged(wanted), b"", data={NAME: SOURCE}))

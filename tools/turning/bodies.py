@@ -2,10 +2,12 @@
 
 import pathlib
 import re
+import tempfile
 
 from testing.tried import Result
-from testing.turned import Turn
+from testing.turned import NotTurned, Turn, laid
 
+from .making import copies
 from .subjects import SUBJECTS
 
 FILE = pathlib.Path(__file__).with_name("bodies.txt")
@@ -46,10 +48,23 @@ def cited(root):
     return CITED.findall((root / PAGE).read_text(encoding="utf-8"))
 
 
+def together(root, found):
+    """Why the bodies of a copy of the sources cannot be turned together: a text that one turns may be that of another one then."""
+    why = []
+    for copy in copies(root, found):
+        with tempfile.TemporaryDirectory(prefix="turned-") as folder:
+            try:
+                laid(root, pathlib.Path(folder), [it.turn for it in copy])
+            except NotTurned as fault:
+                why += str(fault).splitlines()
+    return why
+
+
 def check(root):
-    """A result for each body: it can be turned; and one for the page that names some: they are there."""
+    """A result for each body: it can be turned; one for those that are turned together; and one for the page that names some: they are there."""
     found = listed()
     names = [it.name for it in found]
     results = [Result(it.name, not why, why) for it in found for why in [faults(root, it, names)]]
+    beside = together(root, found) if all(it.passed for it in results) else []
     gone = [f"the body {it} is not there" for it in cited(root) if it not in names]
-    return [*results, Result(f"the bodies of {PAGE}", not gone, gone)]
+    return [*results, Result("bodies that are turned together", not beside, beside), Result(f"the bodies of {PAGE}", not gone, gone)]

@@ -1,10 +1,12 @@
 """The subjects of the tests that run `rinddecade`: the crates of whose bodies they are to find the wrong ones, and what they try with a program."""
 
 import functools
+import itertools
 import tempfile
 
-from testing import adapter_client, adapter_sessions, conditions, desk, disabling, explained, front_ends, hostile, lanes_so_far, local_past, orders
-from testing import pictures, ports, profiles, prompts, random_prompts, run_pages, stop_lines, terminals, watched_expressions, watching, whole_runs
+from testing import adapter_client, adapter_meant, adapter_sessions, conditions, desk, disabling, explained, front_ends, hostile, lanes_so_far, local_past, orders
+from testing import pictures, ports, profiles, prompts, random_prompts, run_pages, stop_lines, terminals, watched_expressions, watched_writes, watching
+from testing import whole_runs
 from testing.built import ended
 from testing.calls import side_by_side
 from testing.parts import done
@@ -27,7 +29,8 @@ def of_runs(*calls):
 
 
 def of_stops(root):
-    return conditions.runs() + disabling.runs() + stop_lines.runs() + watching.runs() + watched_expressions.runs() + local_past.runs()
+    runs = conditions.runs() + disabling.runs() + stop_lines.runs() + watching.runs() + watched_expressions.runs()
+    return runs + watched_writes.runs() + local_past.runs()
 
 
 def of_devices(name):
@@ -50,6 +53,7 @@ def of_terminals(root, program):
 def of_adapter(root, program):
     for it in adapter_client.CHECKS:
         yield [adapter_client.tried(it, root, [program, "adapter"])]
+    yield adapter_meant.results([program, "adapter"])
     yield adapter_sessions.results(root, [program, "adapter"])
     for task in orders.of_adapter(program, root):
         yield [task()]
@@ -65,7 +69,8 @@ def of_files(root, program):
 
 
 def of_ports(root, program):
-    yield ports.results(root, program)
+    """What is ported, but for kernels: they run for long."""
+    yield from itertools.islice(ports.lists(root, program), 2)
 
 
 def of_record(root, program):
@@ -121,7 +126,7 @@ SUBJECTS = {
         ("lane_counts", "lane_meetings", "lane_profile", "element_accesses", "element_touches", "profile_texts"), of_runs(profiles.runs)
     ),
     "adapter": Subject(
-        ("adapter_frames", "adapter_messages", "adapter_replies", "adapter_session", "opened_texts", "adapter_server"),
+        ("adapter_frames", "adapter_messages", "adapter_replies", "adapter_session", "opened_texts", "log_points", "adapter_server"),
         of_adapter,
         of_devices("an editor"),
     ),
@@ -134,6 +139,10 @@ SUBJECTS = {
         of_runs(lambda root: desk.runs(), prompts.runs, explained.runs, pictures.runs, run_pages.runs, profiles.runs),
         of_adapter,
         of_ports,
+        of_devices("lines at the prompt"),
+    ),
+    "port": Subject(
+        ("port_tokens", "port_draft", "port_settling", "port_expressions", "port_arrays", "port_statements", "port_loops", "source_port"), of_ports
     ),
     "desk": Subject(("desk_options",), of_runs(lambda root: desk.runs()), of_files),
     "record": Subject(("undo_log",), of_record),

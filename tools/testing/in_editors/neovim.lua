@@ -149,10 +149,22 @@ local function shows(expression, wanted)
   need(found == wanted, ("%s is %s"):format(expression, found))
 end
 
+-- Without the plugin the user is told so, and no key is set.
+local function tells_what_is_missing()
+  local preload, notify, told = package.preload["dap"], vim.notify, ""
+  package.preload["dap"] = nil
+  vim.notify = function(text) told = text end
+  require("rinddecade").setup({ path = program })
+  vim.notify, package.preload["dap"] = notify, preload
+  require("rinddecade").map_keys(vim.api.nvim_get_current_buf())
+  need(told:find("the plugin nvim-dap is not there", 1, true) and vim.fn.maparg("<F5>", "n") == "", "that the plugin is not there")
+end
+
 local function try()
   vim.opt.runtimepath:append(root .. "/vim")
   vim.opt.runtimepath:append(root .. "/neovim")
-  require("rinddecade").setup({ path = program, width = 4 })
+  tells_what_is_missing()
+  require("rinddecade").setup({ path = program, width = 4, keys = true })
   vim.cmd("filetype plugin indent on | syntax on")
   for name, tokens in pairs(vim.json.decode(table.concat(vim.fn.readfile(vim.env.TOKENS)))) do
     vim.cmd("edit " .. examples .. "/" .. name)
