@@ -48,13 +48,33 @@
   "Whether SESSION runs a gang."
   (equal (plist-get (dap--debug-session-launch-args session) :type) "rinddecade"))
 
+(defconst rinddecade--fault-buffer "*Rinddecade fault*"
+  "The buffer that says what a fault means: it is too long for the last line.")
+
+(defun rinddecade--hide-fault ()
+  "Takes the window away that says what a fault means."
+  (let ((window (get-buffer-window rinddecade--fault-buffer)))
+    (when window
+      (quit-window nil window))))
+
+(defun rinddecade--show-fault (text meaning)
+  "Shows TEXT of a fault, and MEANING in a window below."
+  (with-current-buffer (get-buffer-create rinddecade--fault-buffer)
+    (special-mode)
+    (let ((inhibit-read-only t))
+      (erase-buffer)
+      (insert text "\n\n" meaning)
+      (goto-char (point-min)))
+    (display-buffer (current-buffer) '(display-buffer-at-bottom (window-height . fit-window-to-buffer))))
+  (message "%s" text))
+
 (defun rinddecade--explain-fault (text session)
-  "Shows TEXT of a fault of SESSION, and behind it what the fault means."
+  "Shows TEXT of a fault of SESSION, and below what the fault means."
   (dap--send-message (dap--make-request "exceptionInfo" (list :threadId 1))
                      (dap--resp-handler
                       (lambda (response)
                         (let ((body (gethash "body" response)))
-                          (message "%s\n\n%s %s" text (gethash "exceptionId" body) (gethash "description" body)))))
+                          (rinddecade--show-fault text (format "%s %s" (gethash "exceptionId" body) (gethash "description" body))))))
                      session))
 
 (defun rinddecade--show-stop (take session event)
@@ -67,6 +87,7 @@ Of a fault it shows what it means: dap-mode would ask in words of its own."
            (is-fault (equal (gethash "reason" body) "exception")))
       (when is-fault
         (puthash "reason" "fault" body))
+      (rinddecade--hide-fault)
       (funcall take session event)
       (if is-fault
           (rinddecade--explain-fault text session)
@@ -89,6 +110,19 @@ Else dap-mode would hold it for running, and refuse all later steps itself."
 A gang goes on as `rinddecade--step' says."
   (rinddecade--step (lambda (_command session) (funcall continue session thread)) "continue" session))
 
+(defun rinddecade--show-refusal (session)
+  "Goes to the place where the source of SESSION is refused, if it is."
+  (let ((why (dap--debug-session-error-message session)))
+    (when (and why (rinddecade--is-gang session) (string-match "\\`\\(.+?\\):\\([0-9]+\\):\\([0-9]+\\): " why))
+      (let ((line (string-to-number (match-string 2 why)))
+            (column (string-to-number (match-string 3 why))))
+        (pop-to-buffer (find-file-noselect (match-string 1 why)))
+        (goto-char (point-min))
+        (forward-line (1- line))
+        (forward-char (1- column))
+        (message "%s" why)))))
+
+(add-hook 'dap-terminated-hook #'rinddecade--show-refusal)
 (advice-add 'dap--on-event :around #'rinddecade--show-stop)
 (advice-add 'dap--step :around #'rinddecade--step)
 (advice-add 'dap-continue :around #'rinddecade--continue)
@@ -112,6 +146,16 @@ With a prefix argument, IS-ASKED, it asks for input and entry and begins."
       (call-interactively #'dap-continue)
     (dap-debug (append (list :type "rinddecade") (when is-asked (rinddecade--asked))))))
 
+(defun rinddecade-breakpoint-toggle ()
+  "Sets a breakpoint on the line or takes it away, and says which.
+A terminal has no fringe that would mark it."
+  (interactive)
+  (dap-breakpoint-toggle)
+  (message (if (dap--get-breakpoint-at-point (gethash buffer-file-name (dap--get-breakpoints)))
+               "Line %d has a breakpoint"
+             "Line %d has no breakpoint")
+           (line-number-at-pos)))
+
 (defun rinddecade-step-back (session)
   "Takes back the last step of SESSION."
   (interactive (list (dap--cur-active-session-or-die)))
@@ -124,7 +168,7 @@ Where there is none, it goes to the beginning of the history."
   (dap--step "reverseContinue" session))
 
 (defun rinddecade--frame (session)
-  "The argument that names the frame of SESSION which is looked at, if there is one."
+  "The argument that names the frame of SESSION which is looked at, if any."
   (let ((frame (dap--debug-session-active-frame session)))
     (when frame
       (list :frameId (gethash "id" frame)))))
@@ -145,7 +189,7 @@ has its value in the frame that is looked at."
 (defconst rinddecade-keys
   '(("<f5>" . rinddecade-go)
     ("S-<f5>" . rinddecade-reverse-continue)
-    ("<f9>" . dap-breakpoint-toggle)
+    ("<f9>" . rinddecade-breakpoint-toggle)
     ("<f10>" . dap-next)
     ("S-<f10>" . rinddecade-step-back)
     ("<f11>" . dap-step-in)
@@ -156,7 +200,7 @@ has its value in the frame that is looked at."
     ("C-c C-p" . rinddecade-step-back)
     ("C-c C-s" . dap-step-in)
     ("C-c C-f" . dap-step-out)
-    ("C-c C-b" . dap-breakpoint-toggle)
+    ("C-c C-b" . rinddecade-breakpoint-toggle)
     ("C-c C-l" . rinddecade-line))
   "The keys in sources, for terminals without those of functions too.")
 

@@ -43,7 +43,12 @@ end
 --- Tells nvim-dap of the program and of its launches. `keys = false` leaves the keys as they are.
 function M.setup(given)
   options = vim.tbl_extend("force", options, given or {})
-  local dap = require("dap")
+  local is_there, dap = pcall(require, "dap")
+  if not is_there then
+    options.keys = false
+    vim.notify("rinddecade: the plugin nvim-dap is not there, which runs sources; they have colours all the same", vim.log.levels.WARN)
+    return
+  end
   dap.adapters.rinddecade = { type = "executable", command = vim.fn.expand(options.path), args = { "adapter" } }
   dap.configurations.ispc = { launch("This source", {}), launch("This source, asked for input and entry", { input = input, entry = entry }) }
 end
