@@ -15,6 +15,9 @@ from toolchain import rt, rtlib
 
 FILE = "proved.txt"
 HEAD = "# What was judged, by the digests of all that was read: written by `make prove`, and not by hand (docs/CONTRIBUTING.md)\n"
+# An earlier judge of edits, by its digest, and the one that lets the very same edits pass: a line by the first counts as one by the second.
+# (The first one checked an edit once more that was refused already, with those that were not.)
+SAME_VERDICTS = {"19791043": "77493d8c"}
 # How many crates a landing judges all the same, the most processor seconds that these take, and about what takes how many.
 DRAWN, MOST = 3, 1_200
 OF_CRATE, OF_LINE, OF_EDIT, OF_LINE_OF_TESTS = 45, 0.12, 15, 0.4
@@ -59,6 +62,11 @@ def lines(root):
     """Returns the lines of the file, those of all toolchains."""
     text = rtlib.text_of(f"{root}/{FILE}") or ""
     return {it for it in text.splitlines(True) if it.strip() and not it.startswith("#")}
+
+
+def told(root):
+    """Returns the lines of the file by what each would say with the judges of today."""
+    return {" ".join(SAME_VERDICTS.get(word, word) for word in it.split(" ")): it for it in lines(root)}
 
 
 def named_in(line):

@@ -1,8 +1,8 @@
 """What a check of a crate reads of the repository, as a digest.
 
-That is its own files; the sources of all crates below it, which have the code that it calls and the contracts of that code; and of the modules of
-definitions and lemmas below it those that are named: by its files, by these sources, or by such a module. A module that nothing names is not
-loaded, so a changed one leaves the verdict as it is.
+That is its own files; of the sources of all crates below it what a crate above can name, or where it makes a program of its own or its tests,
+all of them; and of the modules of definitions and lemmas below it those that are named: by its files, by these sources, or by such a module. A
+module that nothing names is not loaded, so a changed one leaves the verdict as it is.
 """
 
 import functools
@@ -10,12 +10,18 @@ import hashlib
 import os
 import re
 
+from interfaces import interface_of
+
 # A module as definitions and proofs name it, and as an attribute of a function does.
 NAMED = re.compile(r"Rattle\.(\w+)\.((?:specs|proofs)(?:\.[\w+]+)+)")
 IN_ATTRIBUTE = re.compile(r"\b(\w+)::((?:specs|proofs)(?:::\w+)+)")
 # A line of a module that only names those within it.
 NAMES = re.compile(r"(?:pub )?mod (\w+)")
 ENDS = (".rt", ".antt")
+# A function's contract or theorem, as a module of definitions or lemmas names it.
+CITED = re.compile(r"\bspecs\.contracts\b|\.Met\b")
+# The files of one function's proof, which no other crate can name.
+OF_PROOFS = ("Answers.antt", "Invariants.antt", "Proof.antt")
 
 
 @functools.cache
@@ -40,21 +46,34 @@ def module_of(crates, crate, words):
 
 
 @functools.cache
-def named_by(path):
-    """Returns the modules of the repository that a file names."""
-    crates, text = path.partition("/crates/")[0] + "/crates", text_of(path)
+def are_cited(folder):
+    """Whether definitions or lemmas of a crate name a contract or a theorem of a function."""
+    files = [it for part in ("specs", "proofs") for it in files_in(f"{folder}/{part}") if os.path.basename(it) not in OF_PROOFS]
+    return any(CITED.search(text_of(it)) for it in files)
+
+
+@functools.cache
+def interface(path):
+    """Returns what a crate above can name of a source."""
+    return "\n".join(interface_of(text_of(path), are_cited(path.rpartition("/src/")[0])))
+
+
+@functools.cache
+def named_by(path, text):
+    """Returns the modules of the repository that a text of a file names."""
+    crates = path.partition("/crates/")[0] + "/crates"
     named = NAMED.findall(text) + (IN_ATTRIBUTE.findall(text) if path.endswith(".rt") else [])
     return frozenset({module_of(crates, *it) for it in named} - {None})
 
 
-def reached(files):
-    """Returns these files with all modules that they name, and that those name."""
-    seen, left = set(), [*files]
+def reached(texts):
+    """Returns these texts of files by their paths, with all modules that they name, and that those name."""
+    seen, left = {}, [*texts.items()]
     while left:
-        path = left.pop()
+        path, text = left.pop()
         if path not in seen:
-            seen.add(path)
-            left += named_by(path)
+            seen[path] = text
+            left += [(it, text_of(it)) for it in named_by(path, text)]
     return seen
 
 
@@ -74,14 +93,16 @@ def lists_above(module):
 
 
 @functools.cache
-def sum_of_file(path):
-    """Returns a digest of a file with its name, and of the lists that lead to it where it is a module."""
+def sum_of_text(path, text):
+    """Returns a digest of a text with the name of its file, and of the lists that lead to it where it is a module."""
     named = path.partition("/crates/")[2]
-    return hashlib.sha256(repr((named, text_of(path), lists_above(path) if path.endswith(".antt") else [])).encode()).hexdigest()
+    return hashlib.sha256(repr((named, text, lists_above(path) if path.endswith(".antt") else [])).encode()).hexdigest()
 
 
 def sum_of_read(crate, below):
     """Returns a digest of what a check of a crate reads of the repository's files, where these crates are below it."""
-    own = [it for part in ("src", "specs", "proofs") for it in files_in(f"{crate.folder}/{part}")]
-    sources = [it for lower in below for it in files_in(f"{lower.folder}/src")]
-    return hashlib.sha256(repr(sorted(sum_of_file(it) for it in reached([*own, *sources]))).encode()).hexdigest()
+    texts = {it: text_of(it) for part in ("src", "specs", "proofs") for it in files_in(f"{crate.folder}/{part}")}
+    has_code = crate.is_program or crate.has_tests()
+    sources = {it: text_of(it) if has_code else interface(it) for lower in below for it in files_in(f"{lower.folder}/src")}
+    read = reached(texts | {it: text for it, text in sources.items() if text})
+    return hashlib.sha256(repr(sorted(sum_of_text(*it) for it in read.items())).encode()).hexdigest()

@@ -1,7 +1,7 @@
 """What a landing takes from proved.txt, on a small repository of two crates.
 
-Lines that stand spare the proofs, what changed is proved with all above it, and a line that was forged is found by the whole gate, and by a
-landing that draws its crate. On a short disk the same is judged.
+Lines that stand spare the proofs, what changed is proved with all above it that reads it, and a line that was forged is found by the whole gate,
+and by a landing that draws its crate. On a short disk the same is judged.
 """
 
 import os
@@ -71,6 +71,9 @@ seven = 7
 }
 # Of each crate a body, and a wrong one.
 BODIES = {LOWER: ("if a < b { a } else { b }", "a"), UPPER: ("smaller(a, 7)", "smaller(a, 8)")}
+# Another right body of the lower one, and another name of what it promises.
+OTHER_BODY = (BODIES[LOWER][0], "if b < a { b } else { a }")
+OTHER_NAME = ("ensures first {", "ensures least {")
 # Lines of another toolchain: of a crate that is there, and of one that is not.
 OTHERS = tuple(f"{it} 0123456789abcdef proof, 1 edits by 01234567 89abcdef with another-kit" for it in (LOWER, "gone"))
 # The landing without the trial of its judges, with so many crates drawn; and one that only writes the lines of the crates as they stand.
@@ -85,6 +88,18 @@ runpy.run_path(f"{tools}/prove", run_name="__main__")
 """
 # The same where no disk has room enough.
 LANDS_WITH_NO_ROOM = LANDS.replace("import proved, selftest\n", "import proved, selftest, store\nstore.ROOMY = 10**30\n")
+# Lines as an earlier judge of edits has written them, whose verdicts count.
+AGES = """\
+import sys
+sys.dont_write_bytecode = True
+sys.path.insert(0, f"{sys.argv[1]}/judging")
+import proved
+earlier = {now: it for it, now in proved.SAME_VERDICTS.items()}
+with open(proved.FILE, encoding="utf-8") as it:
+    text = it.read()
+with open(proved.FILE, "w", encoding="utf-8") as it:
+    it.write(" ".join(earlier.get(word, word) for word in text.split(" ")))
+"""
 FORGES = """\
 import os, runpy, sys
 tools, sys.dont_write_bytecode = sys.argv[1], True
@@ -178,23 +193,38 @@ def lines_that_stand(small):
     small.forget()
     small.lands("both lines stand", "4 passed, 0 failed", [])
     small.must("the lines stay", small.lines() == first)
+    small.called(AGES)
+    aged = small.lines()
+    small.lands("lines by an earlier judge stand", "4 passed, 0 failed", [])
+    small.must("they stay as they are", small.lines() == aged)
     write(small.root / FILE, "".join(f"{it}\n" for it in [*first.values(), *OTHERS]))
     small.change(UPPER, "A number that is", "Some number that is")
     small.lands("the upper one changed", "4 passed, 0 failed", [f"{LOWER}: proof", f"{UPPER}: proof", f"{UPPER}: edit"])
     small.must("its line alone is other", small.lines()[LOWER] == first[LOWER] and small.lines()[UPPER] != first[UPPER])
     small.must("of another toolchain's lines the one of a crate that is there stays", [it for it in small.all_lines() if it in OTHERS] == [OTHERS[0]])
     small.change(LOWER, "The smaller of", "What is smaller of")
-    small.must("with the lower one both are to be judged", all(small.left_of(it, False) for it in SOURCES))
+    small.must("a comment of the lower one leaves the upper one judged", small.left_of(LOWER, False) and small.left_of(UPPER, True))
 
 
 def modules_that_are_named(small):
     """What nothing names of the lower one leaves the line of the upper one, and what its source names does not."""
     small.forget()
-    small.lands("an empty store once more", "4 passed, 0 failed", [f"{name}: {it}" for name in SOURCES for it in ("proof", "edit")])
+    small.lands("an empty store once more", "4 passed, 0 failed", [f"{LOWER}: {it}" for it in ("proof", "edit")])
     small.tell_more(UNNAMED)
     small.must("a module that nothing names leaves the upper one judged", small.left_of(LOWER, False) and small.left_of(UPPER, True))
     small.tell_more(NAMED)
     small.must("a module that is named leaves neither", small.left_of(LOWER, False) and small.left_of(UPPER, False))
+
+
+def code_below(small):
+    """Another body of the lower one leaves the upper one's line, and another contract does not."""
+    small.forget()
+    small.lands("an empty store for other code", "4 passed, 0 failed", [f"{name}: {it}" for name in SOURCES for it in ("proof", "edit")])
+    small.change(LOWER, *OTHER_BODY)
+    small.must("another body leaves the upper one judged", small.left_of(LOWER, False) and small.left_of(UPPER, True))
+    small.change(LOWER, *reversed(OTHER_BODY))
+    small.change(LOWER, *OTHER_NAME)
+    small.must("another contract leaves neither", small.left_of(LOWER, False) and small.left_of(UPPER, False))
 
 
 def a_short_disk(small):
@@ -225,7 +255,7 @@ def check(root):
     found = []
     with tempfile.TemporaryDirectory(prefix="small-") as top:
         small = Small(root / "tools", pathlib.Path(os.path.realpath(top)))
-        for call in (crates_that_are_named, lines_that_stand, modules_that_are_named, a_short_disk, forged_lines):
+        for call in (crates_that_are_named, lines_that_stand, modules_that_are_named, code_below, a_short_disk, forged_lines):
             small.why = []
             call(small)
             found.append(Result(call.__name__.replace("_", " "), not small.why, small.why))
