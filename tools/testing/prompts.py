@@ -17,11 +17,14 @@ import subprocess
 import tempfile
 import tty
 
-from . import asked_in_frames, asking, deep_frames, digits, listing, lists_behind_moves, numbering, past_the_end, printing, returning, told_reasons
+from . import asked_in_frames, asking, deep_frames, digits, listing, lists_behind_moves, numbering, parted_frames, past_the_end, printing, returning, told_reasons
 from .tried import Result, Run, differences, shown
 
 CRATE = "rinddecade"
-PARTS = (digits, printing, asking, returning, numbering, listing, past_the_end, deep_frames, lists_behind_moves, told_reasons, asked_in_frames)
+PARTS = (
+    digits, printing, asking, returning, numbering, listing, past_the_end, deep_frames, lists_behind_moves, told_reasons, asked_in_frames,
+    parted_frames,
+)
 HEAD, LINES, LINE = "=== ", "%%", "> "
 PAGE = "docs/FROM_GDB.md"
 HABITS, LEADS_TO, SILENCE, USAGE = "sessions/prompts/typed.lines", " => ", "(silence)", b"the usage is"
