@@ -1,10 +1,14 @@
 -- What lanes read from the words of a scalar, and what they leave in them.
-use Rattle.std.proofs.Common.{ℕ, zero, suc, ◌+◌, ◌<◌, ◌≤◌, ◌≢◌, Bool, true, false, cond, ◌≡◌, refl, sym, ◌∙◌, ap, arith, List, [], ◌∷◌, length, slice_index}
+use Rattle.std.proofs.Common.{ℕ, zero, suc, ◌+◌, ◌<◌, ◌≤◌, ◌≢◌, Bool, true, false, cond, ◌≡◌, refl, sym, ◌∙◌, ap, arith, List, [], ◌∷◌, length, slice_index, inl, inr}
 use Rattle.std.specs.Prelude.{nat_eq, replicate}
 use Rattle.std.proofs.lemmas.Bool.{eq-eqb}
-use Rattle.std.proofs.lemmas.List.{get_or-replicate}
+use Rattle.std.proofs.lemmas.List.{get_or-replicate, length-replicate}
+use Rattle.std.proofs.lemmas.Simd.{get_or-put_chunk_above, get_or-put_chunk_at, get_or-put_chunk_below, length-put_chunk}
+use Rattle.std.specs.Simd.Lanes.{put_chunk}
 use Rattle.gang_types.specs.declared.types.Rate.TheVariants.{Uniform, Varying}
 use Rattle.gang_types.specs.Lanes.{Lanes, has}
+use Rattle.gang_types.specs.Masks.{lanes_of_word, word_of_lanes}
+use Rattle.gang_types.specs.MaskLaws.{lanes_of_word_of_lanes}
 use Rattle.gang_model.specs.Running.Lanes.{at, each, merged}
 use Rattle.gang_model.specs.Running.State.{seen}
 use Rattle.gang_model.specs.Running.Step.{stored_in, scattered_from}
@@ -88,17 +92,52 @@ module _ (w first : ℕ) (lanes : Lanes) (slots values old new : List ℕ) (lane
         };
       }
 
-  -- where all lanes take part, they have the values
-  pub all_set : lanes ≡ replicate w true → IsScalarAt w Varying first values new
-  all_set every = record {
-    long = values_long;
-    stands = record {
-      inside = omega (arith, values_long, inside, new_long);
-      same = λ j h. let within : j < w = omega (arith, h, values_long) in lane_word j within ∙ ap (λ b. cond b (slice_index values j) (slice_index old (first + j))) (ap (λ ls. has ls j) every ∙ get_or-replicate w j true false within);
-    };
-  }
-
   pub varying_kept : IsKeptOutside first w old new
   varying_kept =
       kept_outside first w lanes slots values old new stores
       (λ k e. let within = lane_within w lanes k lanes_long e in let slot = are k within in (omega (arith, slot), omega (arith, slot, within)))
+
+-- ---- setting a word for each lane, one behind the other
+module _ (w first : ℕ) (values old new : List ℕ) (values_long : length values ≡ w) (inside : first + w ≤ length old) (is : new ≡ put_chunk first old values) where
+  run_long : length new ≡ length old
+  run_long = ap length is ∙ length-put_chunk first old values
+
+  run_word : (j : ℕ) → j < w → slice_index new (first + j) ≡ slice_index values j
+  run_word j h = ap (λ ws. slice_index ws (first + j)) is ∙ get_or-put_chunk_at first old values j 0 (omega (arith, h, values_long)) (omega (arith, inside, values_long))
+
+  -- they are the scalar's words
+  pub run_stands : IsScalarAt w Varying first values new
+  run_stands = record {
+    long = values_long;
+    stands = record { inside = omega (arith, values_long, inside, run_long); same = λ j h. run_word j (omega (arith, h, values_long)) };
+  }
+
+  -- where all lanes take part, the scalar has the new values
+  pub run_set : (lanes : Lanes) → lanes ≡ replicate w true → (scalar : List ℕ) → IsScalarAt w Varying first scalar old → IsScalarAt w Varying first (merged lanes values scalar) new
+  run_set lanes every scalar stood =
+      let lanes_long : length lanes ≡ w = ap length every ∙ length-replicate w true in
+      let long : length (merged lanes values scalar) ≡ w = length-merged lanes values scalar (values_long ∙ sym lanes_long) (stood.long ∙ sym lanes_long) ∙ lanes_long in
+      record {
+        long = long;
+        stands = record {
+          inside = omega (arith, long, inside, run_long);
+          same = λ j h.
+              let within : j < w = omega (arith, h, long) in
+              run_word j within
+              ∙ sym (lane_merged lanes values scalar j (omega (arith, within, lanes_long)) (values_long ∙ sym lanes_long) (stood.long ∙ sym lanes_long)
+              ∙ ap (λ b. cond b (slice_index values j) (slice_index scalar j)) (ap (λ ls. has ls j) every ∙ get_or-replicate w j true false within));
+        };
+      }
+
+  pub run_kept : IsKeptOutside first w old new
+  run_kept = record {
+    long = run_long;
+    same = λ i side. elim side [
+      | inl below ↦ ap (λ ws. slice_index ws i) is ∙ get_or-put_chunk_below first old values i 0 below
+      | inr above ↦ ap (λ ws. slice_index ws i) is ∙ get_or-put_chunk_above first old values i 0 (omega (arith, above, values_long))
+    ];
+  }
+
+-- the word of a set says which lanes it has
+pub same_sets : (w : ℕ) (lanes others : Lanes) → length lanes ≡ w → length others ≡ w → word_of_lanes lanes ≡ word_of_lanes others → lanes ≡ others
+same_sets w lanes others long wide e = sym (lanes_of_word_of_lanes w lanes long) ∙ (ap (lanes_of_word w) e ∙ lanes_of_word_of_lanes w others wide)

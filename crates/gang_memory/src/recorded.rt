@@ -30,4 +30,9 @@ impl<T: Timeline + Drop> WordStore for Recorded<T> {
     fn set(&mut self, index: usize, value: u64) {
         self.timeline.set(index, value);
     }
+
+    #[inline(always)]
+    fn set_run(&mut self, first: usize, values: &[u64]) {
+        self.timeline.set_run(first, values);
+    }
 }

@@ -61,7 +61,12 @@ pub fn assign_scalar<const W: usize, S: WordStore>(
 {
     match rate {
         Rate::Uniform => store.set(first, values[mask.lowest::<W>()]),
-        Rate::Varying => set_words(store, mask, consecutive(first), values),
+        Rate::Varying => {
+            if mask.word::<W>() == Mask::all::<W>().word::<W>() {
+                return store.set_run(first, &values);
+            }
+            set_words(store, mask, consecutive(first), values)
+        }
     }
 }
 
@@ -83,12 +88,7 @@ pub fn declare_scalar<const W: usize, S: WordStore>(
 {
     match rate {
         Rate::Uniform => store.set(first, values[mask.lowest::<W>()]),
-        Rate::Varying => set_words(
-            store,
-            Mask::all::<W>(),
-            consecutive(first),
-            only(mask, values),
-        ),
+        Rate::Varying => store.set_run(first, &only(mask, values)),
     }
 }
 

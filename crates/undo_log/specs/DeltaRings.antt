@@ -1,5 +1,5 @@
 -- What the fields of a DeltaRing mean.
-use Rattle.std.specs.Prelude.{◌≡◌, ℕ, ◌+◌, ◌*◌, ◌≤◌, ◌<◌, List, [], ◌∷◌, length, map, All, take, drop, slice_set, count_by}
+use Rattle.std.specs.Prelude.{◌≡◌, ℕ, zero, suc, ◌+◌, ◌*◌, ◌≤◌, ◌<◌, List, [], ◌∷◌, ◌++◌, length, map, reverse, All, take, drop, slice_index, slice_set, count_by}
 use Rattle.undo_log.specs.declared.changes.Change.{Change}
 use Rattle.undo_log.specs.declared.events.Mark.{Mark}
 use Rattle.undo_log.specs.declared.delta_ring.DeltaRing.TheInside.{Inside}
@@ -10,6 +10,11 @@ use Rattle.undo_log.specs.Deltas.{Deltas, deltas}
 abbrev pub taken_back : List Change → List ℕ → List ℕ
 taken_back [] words = words
 taken_back (c ∷ cs) words = taken_back cs (slice_set words c.index c.old)
+
+-- the changes of so many words from one on, of which the newest comes last
+abbrev pub run_changes : (first count : ℕ) → List ℕ → List Change
+run_changes first zero words = []
+run_changes first (suc n) words = run_changes first n words ++ record { index = first + n; old = slice_index words (first + n) } ∷ []
 
 -- each event with the words before it
 abbrev pub moments : List Mark → List Change → List ℕ → List Moment
@@ -22,7 +27,7 @@ total [] = 0
 total (m ∷ ms) = m.count + total ms
 
 abbrev pub deltas_seen : Inside → Deltas
-deltas_seen a = deltas (record { words = a.words.items; past = moments a.marks.items a.changes.items a.words.items; limit = a.limit; room = a.cells }) (map (λ m. m.count) a.marks.items)
+deltas_seen a = deltas (record { words = a.words.items; past = moments a.marks.items (reverse a.changes.items) a.words.items; limit = a.limit; room = a.cells }) (map (λ m. m.count) a.marks.items)
 
 -- The rings have room for as many events and old words as may be kept, and each kept event has all its old words. The steps are counted.
 pub record AreDeltas (a : Inside) : Type 0 where

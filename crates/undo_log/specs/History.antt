@@ -1,5 +1,6 @@
 -- What a record of old words is, however it is kept.
 use Rattle.std.specs.Prelude.{◌≡◌, ℕ, ◌<◌, ◌≤◌, Bool, true, false, List, [], ◌∷◌, length, take, slice_index, slice_set, count_by, map, replicate, Result, Ok, Err}
+use Rattle.std.specs.Simd.Lanes.{put_chunk}
 use Rattle.undo_log.specs.declared.timeline.Undone.{Undone}
 use Rattle.undo_log.specs.declared.timeline.Undone.TheVariants.{Step, Poke}
 use Rattle.undo_log.specs.declared.timeline.Back.{Back}
@@ -23,6 +24,10 @@ moment event before = record { event = event; before = before }
 -- a word is set
 abbrev pub with_word : ℕ → ℕ → History → History
 with_word index value h = record h { words = slice_set h.words index value }
+
+-- words are set, from one on
+abbrev pub with_run : ℕ → List ℕ → History → History
+with_run first values h = record h { words = put_chunk first h.words values }
 
 -- an event is opened: it is the newest, and past the limit the oldest goes
 abbrev pub marked : Undone → History → History

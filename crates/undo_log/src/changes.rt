@@ -1,8 +1,9 @@
 //! Words that were set, and what they were before.
-ghost use Rattle.std.specs.Prelude.{◌≡◌, ◌<◌, ◌≤◌, ◌&&◌, nat_le, nat_lt, length, take, drop, All};
+ghost use Rattle.std.specs.Prelude.{◌≡◌, ◌+◌, ◌-◌, ◌^◌, ◌<◌, ◌≤◌, ◌&&◌, nat_le, nat_lt, length, reverse, take, All};
 ghost use Rattle.std.specs.List.{list_any};
-ghost use Rattle.circular_buffer.specs.Buffer.{buffer};
-ghost use Rattle.undo_log.specs.DeltaRings.{taken_back};
+ghost use Rattle.std.specs.Simd.Lanes.{put_chunk};
+ghost use Rattle.circular_buffer.specs.Buffer.{buffer, keep_last};
+ghost use Rattle.undo_log.specs.DeltaRings.{run_changes, taken_back};
 
 use circular_buffer::HeapCircularBuffer;
 
@@ -13,19 +14,35 @@ pub(crate) struct Change {
     pub(crate) old: u64,
 }
 
-/// Whether one of the first `count` changes is of a word of an index from `first` on and before `end`.
+impl Change {
+    /// Whether it is of a word of an index from `first` on and before `end`.
+    #[inline(always)]
+    fn is_between(self, first: usize, end: usize) -> bool
+        ensures { result ≡ (nat_le first self.index && nat_lt self.index end) }
+    {
+        first <= self.index && self.index < end
+    }
+}
+
+/// Whether one of the last `count` changes is of a word of an index from `first` on and before `end`.
 pub(crate) fn is_any_between(
     changes: &HeapCircularBuffer<Change>,
     count: usize,
     first: usize,
     end: usize,
 ) -> bool
-    ensures { result ≡ list_any (λ c. nat_le first c.index && nat_lt c.index end) (take count changes.now.items) }
+    ensures { result ≡ list_any (λ c. nat_le first c.index && nat_lt c.index end) (keep_last count changes.now.items) }
 {
-    changes
-        .iter()
-        .take(count)
-        .any(|change| first <= change.index && change.index < end)
+    let len = changes.len();
+    for number in len.saturating_sub(count)..len {
+        let Some(change) = changes.get(number) else {
+            return false;
+        };
+        if change.is_between(first, end) {
+            return true;
+        }
+    }
+    false
 }
 
 /// Takes `count` changes back, the newest first, and answers how many words it wrote.
@@ -36,17 +53,44 @@ pub(crate) fn write_back(
 ) -> usize
     requires there { count ≤ length changes.old.items }
     requires in_range { All (λ c. c.index < length words.old) changes.old.items }
-    ensures words { words.new ≡ taken_back (take count changes.old.items) words.old }
-    ensures changes { changes.new ≡ buffer (drop count changes.old.items) changes.old.capacity }
+    ensures words { words.new ≡ taken_back (take count (reverse changes.old.items)) words.old }
+    ensures changes { changes.new ≡ buffer (take (length changes.old.items - count) changes.old.items) changes.old.capacity }
     ensures written { result ≡ count }
 {
     let mut written = 0;
     while written < count {
-        let Some(change) = changes.pop_front() else {
+        let Some(change) = changes.pop_back() else {
             return written;
         };
         words[change.index] = change.old;
         written += 1;
     }
     written
+}
+
+/// Sets the words from `first` on to these `W`, and answers what they were before.
+#[inline(always)]
+pub(crate) fn exchange<const W: usize>(
+    words: &mut [u64],
+    first: usize,
+    values: &[u64],
+) -> [Change; W]
+    requires width { length values.now ≡ W }
+    requires small { first + length values.now < 2 ^ 64 }
+    requires in_range { first + length values.now ≤ length words.old }
+    ensures words { words.new ≡ put_chunk first words.old values.now }
+    ensures changes { result ≡ run_changes first (length values.now) words.old }
+{
+    let mut changes = [Change {
+        index: first,
+        old: 0,
+    }; W];
+    for index in 0..values.len() {
+        changes[index] = Change {
+            index: first + index,
+            old: words[first + index],
+        };
+        words[first + index] = values[index];
+    }
+    changes
 }

@@ -2,7 +2,7 @@
 ghost use Rattle.std.specs.Prelude.{◌≡◌, ◌+◌, ◌-◌, ◌^◌, ◌<◌, ◌≤◌, [], ◌∷◌, take, drop, length, All, slice_index, IfOk, OnOk, OnErr, IsOk};
 ghost use Rattle.circular_buffer.specs.Buffer.{buffer};
 
-use crate::changes::{Change, is_any_between, write_back};
+use crate::changes::{Change, exchange, is_any_between, write_back};
 use crate::events::{Mark, steps_of};
 use crate::timeline::{Back, NoHistory, Timeline, Undone};
 use circular_buffer::HeapCircularBuffer;
@@ -14,8 +14,9 @@ use std::marker::Model;
 #[derive(Drop)]
 pub struct DeltaRing {
     words: Vec<u64>,
-    /// The newest comes first, here and in `marks`.
+    /// The newest comes last.
     changes: HeapCircularBuffer<Change>,
+    /// The newest comes first.
     marks: HeapCircularBuffer<Mark>,
     steps: usize,
     limit: usize,
@@ -36,8 +37,8 @@ impl Model for DeltaRing {
 
 impl DeltaRing {
     ghost use Rattle.undo_log.specs.declared.timeline.Undone.{Undone};
-    ghost use Rattle.undo_log.specs.History.{new_history, marked, limited};
-    ghost use Rattle.undo_log.specs.Deltas.{deltas};
+    ghost use Rattle.undo_log.specs.History.{new_history, with_run, marked, limited};
+    ghost use Rattle.undo_log.specs.Deltas.{deltas, left_of};
 
     /// A record of this many words, all 0, that keeps nothing. `limit` is the most events that are kept, and `cells` the most words
     /// that may be set after one mark.
@@ -73,7 +74,7 @@ impl DeltaRing {
         };
         self.steps -= steps_of(oldest.event);
         let rest = self.changes.len() - oldest.count;
-        self.changes.truncate_back(rest);
+        self.changes.truncate_front(rest);
     }
 
     /// Makes room for a mark: with `limit` events kept, the oldest goes.
@@ -88,6 +89,38 @@ impl DeltaRing {
             return;
         }
         self.forget_oldest();
+    }
+
+    /// Sets the words from `first` on to these `W`, and keeps what they were as one run.
+    #[inline(always)]
+    fn exchange_run<const W: usize>(&mut self, first: usize, values: &[u64])
+        requires width { length values.now ≡ W }
+        requires few { W ≤ 16 }
+        requires small { first + length values.now < 2 ^ 64 }
+        requires in_range { first + length values.now ≤ length self.old.history.words }
+        requires room { 0 < length self.old.history.past → length values.now ≤ left_of self.old.history.room self.old.counts }
+        ensures history { self.new.history ≡ with_run first values.now self.old.history }
+        ensures left { left_of self.old.history.room self.old.counts ≤ left_of self.new.history.room self.new.counts + length values.now }
+    {
+        let changes = exchange::<W>(self.words.as_mut_slice(), first, values);
+        let Some(latest) = self.marks.get_mut(0) else {
+            return;
+        };
+        latest.count += values.len();
+        self.changes.extend_from_slice(&changes);
+    }
+
+    /// Sets the words from `first` on to these, one by one.
+    fn set_each(&mut self, first: usize, values: &[u64])
+        requires small { first + length values.now < 2 ^ 64 }
+        requires in_range { first + length values.now ≤ length self.old.history.words }
+        requires room { 0 < length self.old.history.past → length values.now ≤ left_of self.old.history.room self.old.counts }
+        ensures history { self.new.history ≡ with_run first values.now self.old.history }
+        ensures left { left_of self.old.history.room self.old.counts ≤ left_of self.new.history.room self.new.counts + length values.now }
+    {
+        for index in 0..values.len() {
+            self.set(first + index, values[index]);
+        }
     }
 
     /// Lowers the limit. Past it the oldest events go.
@@ -142,7 +175,17 @@ impl Timeline for DeltaRing {
             return;
         };
         newest.count += 1;
-        let _ = self.changes.push_front(Change { index, old });
+        let _ = self.changes.push_back(Change { index, old });
+    }
+
+    #[inline(always)]
+    fn set_run(&mut self, first: usize, values: &[u64]) {
+        match values.len() {
+            4 => self.exchange_run::<4>(first, values),
+            8 => self.exchange_run::<8>(first, values),
+            16 => self.exchange_run::<16>(first, values),
+            _ => self.set_each(first, values),
+        }
     }
 
     #[inline(always)]

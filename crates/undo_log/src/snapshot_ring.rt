@@ -90,6 +90,12 @@ impl Timeline for SnapshotRing {
         self.words[index] = value;
     }
 
+    fn set_run(&mut self, first: usize, values: &[u64]) {
+        for index in 0..values.len() {
+            self.set(first + index, values[index]);
+        }
+    }
+
     fn mark(&mut self, event: Undone) {
         let Some(mut list) = self.lists.pop_back() else {
             return;

@@ -1,6 +1,6 @@
 //! What a record of old words is, however it is kept.
-ghost use Rattle.std.specs.Prelude.{◌≡◌, ◌+◌, ◌<◌, ◌≤◌, ℕ, false, length, slice_index, IfOk, OnOk, OnErr, IsOk};
-ghost use Rattle.undo_log.specs.History.{History, HasSetNone, with_word, marked, limited, TakenBack, steps_in};
+ghost use Rattle.std.specs.Prelude.{◌≡◌, ◌+◌, ◌^◌, ◌<◌, ◌≤◌, ℕ, false, length, slice_index, IfOk, OnOk, OnErr, IsOk};
+ghost use Rattle.undo_log.specs.History.{History, HasSetNone, with_word, with_run, marked, limited, TakenBack, steps_in};
 
 use std::alloc::AllocError;
 use thiserror::Error;
@@ -45,6 +45,14 @@ pub trait Timeline {
         requires room { 0 < length (history self.old).past → 0 < left self.old }
         ensures history { history self.new ≡ with_word index value (history self.old) }
         ensures left { left self.old ≤ left self.new + 1 };
+
+    /// Sets the words from `first` on to these. While an event is kept, at most `room` words may be set after its mark.
+    fn set_run(&mut self, first: usize, values: &[u64])
+        requires small { first + length values.now < 2 ^ 64 }
+        requires in_range { first + length values.now ≤ length (history self.old).words }
+        requires room { 0 < length (history self.old).past → length values.now ≤ left self.old }
+        ensures history { history self.new ≡ with_run first values.now (history self.old) }
+        ensures left { left self.old ≤ left self.new + length values.now };
 
     /// Opens an event, before its words are set. With `limit` events kept, the oldest goes.
     fn mark(&mut self, event: Undone)

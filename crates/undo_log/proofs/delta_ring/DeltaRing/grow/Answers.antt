@@ -1,5 +1,6 @@
 use Rattle.std.proofs.Common.{ap, sym, map, take, ◌∙◌, arith}
 use Rattle.std.proofs.lemmas.List.{take_all, length-map}
+use Rattle.std.specs.Prelude.{reverse}
 use Rattle.undo_log.specs.Deltas.{deltas}
 use Rattle.undo_log.specs.DeltaRings.{moments}
 use Rattle.undo_log.proofs.Deltas.{total_fits, length-moments, count_of, seen}
@@ -18,7 +19,7 @@ returns-clause-ok c =
     let a = c.self.inside in
     let r = c.requires.0 in
     let limit = rw (← c.self.view_is) at r in
-    let past = moments a.marks.items a.changes.items a.words.items in
+    let past = moments a.marks.items (reverse a.changes.items) a.words.items in
     let all_moments = sym (take_all c.args.larger past (rw length-moments (omega arith))) in
     let all_counts = sym (take_all c.args.larger (map count_of a.marks.items) (rw length-map (omega arith))) in
     rw (← c.self.view_is, c.in_ok-resize.ensures.ok, c.in_ok-resize-2.ensures.ok)
