@@ -52,9 +52,10 @@ def targets_in_each_frame(client, width):
                 same(told, f"{name} = {value}" if name else str(value))
             for text, depth in [(f"x[{width}]", 1), (f"k[{width}]", 2), (f"k[{width}]", 3), ("table[5]", 1), ("table[5]", 3), ("wide[99]", 2)]:
                 same(client.refused("evaluate", **asked(text, depth, context)), PAST_THE_END)
-            for text, depth in [("y[0]", 1), ("deep[0]", 2), ("total[0]", 1), ("x[2] + 1", 1), ("k[1 - 1]", 2), ("x[2]", 2)]:
+            for text, depth in [("y[0]", 1), ("deep[0]", 2), ("total[0]", 1), ("x[2] + 1", 1), ("k[1 - 1]", 2)]:
                 need(client.refused("evaluate", **asked(text, depth, context)).startswith(NO_INDEX), f"{text} has a value at depth {depth}")
-            same(client.refused("evaluate", **asked("x", 2, context)), f"S5 UnknownName, column 1: {UNKNOWN}")
+            for text in ("x", "x[2]"):
+                same(client.refused("evaluate", **asked(text, 2, context)), f"S5 UnknownName, column 1: {UNKNOWN}")
             same(client.ask("evaluate", **asked("table[1 + 1]", 1, context))["result"], "true")
         client.end()
 

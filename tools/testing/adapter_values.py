@@ -86,6 +86,7 @@ def refuses_in_frames(client):
         ("k + 1", 1, f"S5 UnknownName, column 1: {unknown}"),
         ("1 + x", 3, f"S5 UnknownName, column 5: {unknown}"),
         ("x", 3, f"S5 UnknownName, column 1: {unknown}"),
+        ("counts[3] == 2", 3, f"S5 UnknownName, column 1: {unknown}"),
         ("1+f(k)", 3, called),
         ("1 / k", 2, "F1 DivideByZero in lane 0: the expression has no value"),
         ("table[k + 4]", 3, "F2 Index in lane 0: the expression has no value"),

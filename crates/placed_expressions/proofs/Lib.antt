@@ -1,3 +1,5 @@
 mod Functions
+mod IndexedNames
 mod Readings
+mod Rows
 mod Scopes

@@ -6,6 +6,7 @@ mod called;
 mod placing;
 mod reading;
 mod scope;
+mod unknown;
 
 pub use answers::{ExpressionRefusal, PlacedExpression};
 pub use placing::place_expression;

@@ -16,6 +16,7 @@ use crate::answers::{ExpressionRefusal, PlacedExpression};
 use crate::called::is_function_at;
 use crate::reading::{text_tokens, whole_expression};
 use crate::scope::scope_at;
+use crate::unknown::told;
 use expression_code::compile;
 use gang_model::{RefusalNumber, SourceRefusal};
 use gang_types::Spot;
@@ -66,7 +67,7 @@ fn place_written(
     match place_in(alloc, written, &scope) {
         Ok(placed) => Ok(placed),
         Err(SourceFault::Memory) => Err(ExpressionRefusal::Memory),
-        Err(SourceFault::Refused(refusal)) => Err(named_apart(refusal, program, tokens)),
+        Err(SourceFault::Refused(refusal)) => Err(named_apart(refusal, program, tokens, &scope)),
     }
 }
 
@@ -89,15 +90,22 @@ fn place_in(
     })
 }
 
-/// The refusal, where a call of a function of the program is named apart from other calls that have no value.
-fn named_apart(refusal: SourceRefusal, program: &Program, tokens: &[Token]) -> ExpressionRefusal
-    ensures { (written : ParsedExpr) (spot : Spot) → answer_of (typing.expression written (entries_at (program_view program.now) spot)) ≡ Err refusal
+/// The refusal as it is told: a call of a function of the program is named apart from other calls that have no value, and a name
+/// that nothing has is unknown where it is indexed too.
+fn named_apart(
+    refusal: SourceRefusal,
+    program: &Program,
+    tokens: &[Token],
+    scope: &TypeScope,
+) -> ExpressionRefusal
+    ensures { (written : ParsedExpr) (spot : Spot) → scope.now.entries ≡ entries_at (program_view program.now) spot
+        → answer_of (typing.expression written (entries_at (program_view program.now) spot)) ≡ Err refusal
         → HasNoValue written (lexemes_of tokens.now) (program_view program.now) spot result }
 {
     let place = refusal.place;
     if refusal.number == RefusalNumber::S9 && is_function_at(&program.functions, tokens, place) {
         ExpressionRefusal::CallsFunction(place)
     } else {
-        ExpressionRefusal::NoValue(refusal)
+        ExpressionRefusal::NoValue(told(scope, tokens, refusal))
     }
 }
