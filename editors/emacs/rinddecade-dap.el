@@ -57,6 +57,10 @@
     (when window
       (quit-window nil window))))
 
+(defun rinddecade--fit (window)
+  "Fits WINDOW to what it shows, and leaves the source its half."
+  (fit-window-to-buffer window (/ (frame-height) 2)))
+
 (defun rinddecade--show-fault (text meaning)
   "Shows TEXT of a fault, and MEANING in a window below."
   (with-current-buffer (get-buffer-create rinddecade--fault-buffer)
@@ -65,7 +69,7 @@
       (erase-buffer)
       (insert text "\n\n" meaning)
       (goto-char (point-min)))
-    (display-buffer (current-buffer) '(display-buffer-at-bottom (window-height . fit-window-to-buffer))))
+    (display-buffer (current-buffer) '(display-buffer-at-bottom (window-height . rinddecade--fit))))
   (message "%s" text))
 
 (defun rinddecade--explain-fault (text session)
@@ -77,33 +81,78 @@
                           (rinddecade--show-fault text (format "%s %s" (gethash "exceptionId" body) (gethash "description" body))))))
                      session))
 
+(defun rinddecade--stop-lanes (session reason)
+  "Marks the lanes of SESSION as stopped for REASON, where each is a thread.
+All have stopped, and dap-mode marks the one alone that a stop names: it would
+hold the others for running, and show none of their frames."
+  (let ((launch (dap--debug-session-launch-args session)))
+    (when (eq (plist-get launch :laneThreads) t)
+      (dotimes (lane (plist-get launch :width))
+        (puthash (1+ lane) reason (dap--debug-session-thread-states session))))))
+
 (defun rinddecade--show-stop (take session event)
-  "Has TAKE take EVENT of SESSION, and shows where a gang has stopped.
+  "Has TAKE take EVENT of SESSION, a stop, and shows where a gang has stopped.
 Of a fault it shows what it means: dap-mode would ask in words of its own."
-  (if (not (and (rinddecade--is-gang session) (equal (gethash "event" event) "stopped")))
-      (funcall take session event)
-    (let* ((body (gethash "body" event))
-           (text (gethash "text" body))
-           (is-fault (equal (gethash "reason" body) "exception")))
-      (when is-fault
-        (puthash "reason" "fault" body))
-      (rinddecade--hide-fault)
-      (funcall take session event)
-      (if is-fault
-          (rinddecade--explain-fault text session)
-        (message "%s" text)))))
+  (let* ((body (gethash "body" event))
+         (text (gethash "text" body))
+         (is-fault (equal (gethash "reason" body) "exception")))
+    (when is-fault
+      (puthash "reason" "fault" body))
+    (rinddecade--hide-fault)
+    (rinddecade--stop-lanes session (gethash "reason" body))
+    (funcall take session event)
+    (if is-fault
+        (rinddecade--explain-fault text session)
+      (message "%s" text))))
+
+(defconst rinddecade--ended "The session has ended: F5 begins anew"
+  "What is said at the end of a session, and of a step behind it.")
+
+(defun rinddecade--show-end (take session event)
+  "Has TAKE take EVENT of SESSION, its end, and says so.
+Else dap-mode would say that its process was killed."
+  (set-process-sentinel (dap--debug-session-proc session) #'ignore)
+  (rinddecade--hide-fault)
+  (funcall take session event)
+  (message "%s" rinddecade--ended))
+
+(defun rinddecade--show-output (take session event)
+  "Has TAKE take EVENT of SESSION, a text of the console, and show it.
+Of its own accord dap-mode shows what a program writes, and none of these."
+  (let ((dap-output-buffer-filter nil))
+    (funcall take session event)))
+
+(defun rinddecade--take-event (take session event)
+  "Has TAKE take EVENT of SESSION, and shows what it says of a gang."
+  (pcase (and (rinddecade--is-gang session) (gethash "event" event))
+    ("stopped" (rinddecade--show-stop take session event))
+    ("terminated" (rinddecade--show-end take session event))
+    ("output" (rinddecade--show-output take session event))
+    (_ (funcall take session event))))
+
+(defun rinddecade--show-column (session)
+  "Puts the cursor on the column where SESSION stands.
+Columns count from 1, and dap-mode goes that many characters on."
+  (let ((frame (dap--debug-session-active-frame session)))
+    (when (and frame (rinddecade--is-gang session) (equal (dap--get-path-for-frame frame) buffer-file-name))
+      (goto-char (point-min))
+      (forward-line (1- (gethash "line" frame)))
+      (forward-char (1- (gethash "column" frame))))))
 
 (defun rinddecade--step (step command session)
   "Has STEP do COMMAND of SESSION. A gang that refuses it stands where it stood.
 Else dap-mode would hold it for running, and refuse all later steps itself."
-  (if (not (and (rinddecade--is-gang session) (dap--debug-session-thread-id session)))
-      (funcall step command session)
+  (cond
+   ((not (rinddecade--is-gang session)) (funcall step command session))
+   ((not (dap--session-running session)) (message "%s" rinddecade--ended))
+   ((not (dap--debug-session-thread-id session)) (funcall step command session))
+   (t
     (let* ((thread (dap--debug-session-thread-id session))
            (refused (lambda (why)
                       (dap--select-thread-id session thread t)
                       (message "%s" why))))
       (dap--send-message (dap--make-request command (list :threadId thread)) (dap--resp-handler nil refused) session)
-      (dap--resume-application session))))
+      (dap--resume-application session)))))
 
 (defun rinddecade--continue (continue session thread)
   "Has CONTINUE go on with THREAD of SESSION.
@@ -123,7 +172,8 @@ A gang goes on as `rinddecade--step' says."
         (message "%s" why)))))
 
 (add-hook 'dap-terminated-hook #'rinddecade--show-refusal)
-(advice-add 'dap--on-event :around #'rinddecade--show-stop)
+(add-hook 'dap-stack-frame-changed-hook #'rinddecade--show-column)
+(advice-add 'dap--on-event :around #'rinddecade--take-event)
 (advice-add 'dap--step :around #'rinddecade--step)
 (advice-add 'dap-continue :around #'rinddecade--continue)
 
@@ -132,7 +182,7 @@ A gang goes on as `rinddecade--step' says."
 (dap-register-debug-template "Rinddecade: this source from its end" (list :type "rinddecade" :name "From its end" :stopOnEntry :json-false))
 
 (defun rinddecade--asked ()
-  "The arguments of a launch for which the user is asked, without those left empty."
+  "The arguments of a launch that the user is asked for, without the empty ones."
   (let ((input (read-file-name "Input, if any: " nil "" t))
         (entry (read-string "Entry, the first function if empty: ")))
     (append (unless (string-empty-p input) (list :input (expand-file-name input)))
@@ -158,13 +208,13 @@ A terminal has no fringe that would mark it."
 
 (defun rinddecade-step-back (session)
   "Takes back the last step of SESSION."
-  (interactive (list (dap--cur-active-session-or-die)))
+  (interactive (list (dap--cur-session-or-die)))
   (dap--step "stepBack" session))
 
 (defun rinddecade-reverse-continue (session)
   "Goes back in SESSION to a breakpoint or the change of a watch.
 Where there is none, it goes to the beginning of the history."
-  (interactive (list (dap--cur-active-session-or-die)))
+  (interactive (list (dap--cur-session-or-die)))
   (dap--step "reverseContinue" session))
 
 (defun rinddecade--frame (session)

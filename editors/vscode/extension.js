@@ -51,13 +51,16 @@ const launches = {
     const editor = vscode.window.activeTextEditor;
     if (configuration.type) return configuration;
     if (!editor || editor.document.languageId !== "ispc") return null;
-    return { type: "rinddecade", request: "launch", name: "This source", program: "${file}", width: 8 };
+    return { ...configuration, type: "rinddecade", request: "launch", name: "This source", program: "${file}", width: 8 };
   },
 
-  /** The launch, if the program is there; else none. VS Code waits for it, so it does not wait for the user. */
+  /**
+   * The launch, if the program is there; else none. VS Code waits for it, so it does not wait for the user. One without debugging does not stop on
+   * entry: VS Code sets no breakpoints for it, so it runs to a fault or to the end.
+   */
   resolveDebugConfigurationWithSubstitutedVariables(_folder, configuration) {
     const program = programPath();
-    if (isThere(program)) return configuration;
+    if (isThere(program)) return configuration.noDebug ? { ...configuration, stopOnEntry: false } : configuration;
     tellMissing(program);
     return undefined;
   },

@@ -173,6 +173,19 @@ async function steps(descriptor, launch) {
   await client.end();
 }
 
+/** A launch without debugging runs to the end. */
+async function undebugged(descriptor, provider, given) {
+  const launch = await resolved(provider, { ...given, noDebug: true }, source);
+  assert.deepStrictEqual([launch.program, launch.noDebug, launch.stopOnEntry], [source, true, false]);
+  const client = new Client(descriptor);
+  await client.ask("initialize", { adapterID: launch.type });
+  await client.ask(launch.request, launch);
+  await client.ask("configurationDone");
+  await client.ask("threads");
+  assert.deepStrictEqual(client.events.filter((it) => it.event === "stopped").map((it) => it.body.text), ["ended"]);
+  await client.end();
+}
+
 /** A source that is refused: its place is shown and among the problems, until the source is changed or a launch or a restart is not refused. */
 async function refusals(descriptor, provider) {
   const file = path.resolve(examples, "refused.ispc");
@@ -250,6 +263,7 @@ async function main() {
   assert.deepStrictEqual(provider.resolveDebugConfiguration(undefined, initial), initial);
   for (const it of [initial, {}]) {
     await steps(descriptor, await resolved(provider, it, source));
+    await undebugged(descriptor, provider, it);
     console.log(`came: ${it.name || "a launch without launch.json"}`);
   }
   await refusals(descriptor, provider);
