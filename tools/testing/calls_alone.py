@@ -1,21 +1,25 @@
 """Each public call that takes memory, by itself: each of its allocations is refused in turn.
 
-The program calls_alone makes a call on values that were made before, and then once more. Where an allocation of the first call is refused, it
-says that there was no memory, and the second one is done.
+The library calls_alone makes a call on values that were made before. A program of a few lines, which is built here in a copy of the sources,
+makes it, and then once more. Where an allocation of the first call is refused, it says that there was no memory, and the second one is done.
 """
 
 import itertools
 import pathlib
 import re
+import shutil
 import subprocess
 import sys
 import tempfile
 
-from . import built, hostile, plain
+from . import built, crates, hostile, plain, turned
 from .calls import called, go_on, side_by_side
-from .tried import SECONDS, Result, runs, stored_run
+from .tried import SECONDS, Result, Run, runs
 
 CRATE = "calls_alone"
+# The program's crate in the copy of the sources, its text (the toolchain lets no .rt file lie outside of crates), and its run without a call.
+PROGRAM, MAIN = "calls_alone_main", pathlib.Path(__file__).with_name("calls_alone_main.txt")
+USAGE = [Run("no call", output=b"usage: calls_alone CALL\n")]
 # A call, and how many of its allocations it does without: where it asks first for more than it needs. `stop_at_beginning` is made behind a reply
 # that is short of one.
 CALLS = {
@@ -135,7 +139,7 @@ def public_calls(crate):
 
 def check(listed):
     """One result: each public call that is given an allocator is made alone, but for the parts of a layer."""
-    wanted = {name for crate in listed if not PARTS.fullmatch(crate.name) for name in public_calls(crate)}
+    wanted = {name for crate in listed if crate.name != CRATE and not PARTS.fullmatch(crate.name) for name in public_calls(crate)}
     why = [f"{it} is not made alone" for it in sorted(wanted - CALLS.keys() - NONE_TAKEN - ON_A_PAGE - INNER)]
     return Result("each public call that is given an allocator", not why, why)
 
@@ -172,28 +176,39 @@ def result(call, program, failing):
     return Result(f"{call}: each of {given.count(REFUSED)} allocations refused", not why, why)
 
 
-def of_quick_build(crate, folder):
-    """The result of each call by the build of `make program`."""
-    tools = pathlib.Path(__file__).resolve().parents[1]
-    output, errors, status = called([sys.executable, tools / "quick_build", crate.name], tools)
+def laid(root, folder):
+    """The crate of the program, in a copy of the sources in a folder."""
+    turned.laid(root, folder, ())
+    with open(folder / "crates.txt", "a", encoding="utf-8") as lines:
+        lines.write(f"\n{PROGRAM}: {CRATE}\n")
+    source = folder / "crates" / PROGRAM / "src"
+    source.mkdir(parents=True)
+    shutil.copy(MAIN, source / "main.rt")
+    return crates.Crate(folder, PROGRAM, [CRATE], None)
+
+
+def of_quick_build(crate, root, folder):
+    """The result of each call by the quick build of the copy of the sources."""
+    output, errors, status = called([sys.executable, turned.HERE / "quick_build", "--in", root, crate.name], root)
     failing = hostile.library(folder)
     if status or failing is None:
-        return [Result(crate.name, False, [(output + errors).decode(errors="replace")[-3000:]])]
+        return [Result(CRATE, False, [(output + errors).decode(errors="replace")[-3000:]])]
     return side_by_side(lambda call: result(call, crate.folder / "out/quick", failing), CALLS)
 
 
-def results(crate, listed):
-    """The result of the stored run, and of each call."""
-    stored = stored_run(crate)
-    with tempfile.TemporaryDirectory(prefix="alone-") as folder:
-        checked, made = built.taken(crate, stored * built.LOOKS, pathlib.Path(folder)), plain.Plain(folder)
+def results(root, listed):
+    """The result of the run without a call, and of each call."""
+    with tempfile.TemporaryDirectory(prefix="alone-") as folder, tempfile.TemporaryDirectory(prefix="alone-sources-") as sources:
+        folder, sources = pathlib.Path(folder), pathlib.Path(sources)
+        crate, made = laid(root, sources), plain.Plain(folder)
+        checked = built.taken(crate, USAGE * built.LOOKS, folder)
         if checked is None:
             # On a busy machine it may have ended before it was found.
-            return [*runs(crate, stored), check(listed), *of_quick_build(crate, folder)]
-        made.take(pathlib.Path(folder))
+            return [*runs(crate, USAGE), check(listed), *of_quick_build(crate, sources, folder)]
+        made.take(folder)
         program, why = made.program()
         failing = hostile.library(folder)
         if program is None or failing is None:
-            return [Result(crate.name, False, why or [hostile.NO_LIBRARY])]
+            return [Result(CRATE, False, why or [hostile.NO_LIBRARY])]
         alone = side_by_side(lambda call: result(call, program, failing), CALLS)
-        return [*(built.ended(checked, it) for it in stored), check(listed), *alone]
+        return [*(built.ended(checked, it) for it in USAGE), check(listed), *alone]

@@ -14,22 +14,13 @@ use std::io;
 
 /// How a call ended.
 #[derive(Clone, Copy, Debug, PartialEq, Eq)]
-pub(crate) enum Ended {
+pub enum Ended {
+    /// It gave its result.
     Done,
     /// There was no memory.
     Memory,
-    /// It was refused for something else, or it did something else.
+    /// It was refused for something else, or did something else than it has to.
     Otherwise,
-}
-
-/// The word for how a call ended, if it was made.
-pub(crate) fn word(end: Option<Ended>) -> &'static str {
-    match end {
-        None => "unprepared",
-        Some(Ended::Done) => "done",
-        Some(Ended::Memory) => "memory",
-        Some(Ended::Otherwise) => "otherwise",
-    }
 }
 
 /// Why a call may end without a result.
