@@ -59,10 +59,12 @@ def default_history(client, examples):
 
 def ranges(client, examples):
     """The numbers of a launch are taken up to the ends of their ranges, and no further. A history of one step and moves of one step do so much."""
-    refusal = "width is 4, 8 or 16, history 1 to 65536, steps 1 to 10000000"
+    ranges = {"width": "4, 8 or 16", "history": "1 to 65536", "steps": "1 to 10000000"}
     with written(LINES) as path:
         for name, value in [("width", 0), ("width", 7), ("width", 32), ("history", 0), ("history", 65537), ("steps", 0), ("steps", 10000001)]:
-            same(client.refused("launch", **{"program": str(path), name: value}), refusal)
+            same(client.refused("launch", **{"program": str(path), name: value}), f"{name} {value}: it is {ranges[name]}")
+        same(client.refused("launch", program=str(path), width=5, history=0), "width 5: it is 4, 8 or 16")
+        same(client.refused("launch", program=str(path), width=8, history=10, steps=0), "steps 0: it is 1 to 10000000")
         client.launch(path, width=8, history=65536, steps=10000000)
         client.begin()
         same(client.move("continue")["text"], "ended")
@@ -154,7 +156,8 @@ def changed_texts(client, examples):
     """A restart runs the text that the source has then; a text that is refused is told with its path, line and column."""
     wrong = "export void go() {\n    int x = y;\n}\n"
     with written(wrong) as path:
-        same(client.refused("launch", program=str(path)), f"{path}:2:13: S5 UnknownName")
+        unknown = f"{path}:2:13: S5 UnknownName: No variable or function with this name is in scope here."
+        same(client.refused("launch", program=str(path)), unknown)
         path.write_text(ENTRIES)
         client.launch(path)
         client.begin()
@@ -165,11 +168,53 @@ def changed_texts(client, examples):
         same(client.place(), [(3, 5, "go [1111]")])
         client.move("next")
         path.write_text(wrong)
-        same(client.refused("restart"), f"{path}:2:13: S5 UnknownName")
+        same(client.refused("restart"), unknown)
         same(client.place(), [(4, 1, "go [1111]")])
         path.unlink()
-        same(client.refused("restart"), "the program or its input cannot be read")
+        same(client.refused("restart"), f"cannot read {path}: there is no such file")
         same(client.move("stepBack")["text"], "at 3:5 go depth 1 lanes 1111")
+        client.end()
+
+
+def unread_files(client, examples):
+    """The file of a launch that cannot be read is told by its path, with the reason."""
+    source = str(examples / "scale.ispc")
+    same(client.refused("launch", program="/nowhere/at.all"), "cannot read /nowhere/at.all: there is no such file")
+    same(client.refused("launch", program=str(examples)), f"cannot read {examples}: it is a directory")
+    same(client.refused("launch", program=source, input="/nowhere/at.all"), "cannot read /nowhere/at.all: there is no such file")
+    same(client.refused("launch", program=f"{source}/more"), f"cannot read {source}/more: a part of its path is no directory")
+    client.launch(source, input=str(examples / "scale.input"))
+    client.begin()
+    client.end()
+
+
+def unknown_entries(client, examples):
+    """An entry that is not there is told with the functions that a run may begin with."""
+    with written(ENTRIES) as path:
+        same(client.refused("launch", program=str(path), entry="third"), "E1 NoEntry: no exported function is called third; exported functions: go, other")
+    with written("void go() {\n}\n") as path:
+        none = "E1 NoEntry: exported functions: none; write `export` before the function that the run begins with"
+        same(client.refused("launch", program=str(path)), none)
+    client.ask("initialize", adapterID="rinddecade")
+    client.end()
+
+
+def refused_inputs(client, examples):
+    """An input that is refused is told by its path and line, with what the refusal means."""
+    form = "The line is not of the form `name = values`, a scalar has not just one value, the name is not one that an input can give, or it has had a line."
+    missing = "A parameter of the entry has no line in the input, or no `--input` was given."
+    with written("export void go(uniform int8 n) {\n}\n") as path, written("n = 1\nm = 2\n") as rows:
+        refused = lambda **more: client.refused("launch", program=str(path), **more)
+        same(refused(input=str(rows)), f"{rows}:2:1: I1 BadLine: {form}")
+        rows.write_text("# nothing\n")
+        same(refused(input=str(rows)), f"{rows}: I2 Missing n: {missing}")
+        same(refused(), f"input: I2 Missing n: {missing}")
+        rows.write_text("\nn = 128\n")
+        same(refused(input=str(rows)), f"{rows}:2:1: I3 Range: A value of this line is outside the type of its variable.")
+        rows.write_text("n = -128\n")
+        client.launch(path, input=str(rows))
+        client.begin()
+        same(client.value("n"), "-128")
         client.end()
 
 
@@ -183,5 +228,5 @@ def ends_before_a_launch(client, examples):
 
 LAUNCH_CHECKS = [
     arguments, ranges, history, default_history, step_limit, given_input, first_statement, no_breakpoints, full, changed_texts,
-    ends_before_a_launch,
+    unread_files, unknown_entries, refused_inputs, ends_before_a_launch,
 ]

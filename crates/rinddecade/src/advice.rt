@@ -15,7 +15,12 @@ pub(crate) fn advise(rt: &HostRuntime, refusal: &Refusal, program: &Program<'_>,
     let mut page = Page::new(StreamWriter::new(rt.stderr()));
     match refusal {
         Refusal::Memory | Refusal::Input(InputFault::Memory) => return,
-        Refusal::NoEntry => put_entries(rt.alloc(), program, texts, &mut page),
+        Refusal::NoEntry => put_entries(
+            rt.alloc(),
+            program.options.entry,
+            texts.source.text,
+            &mut page,
+        ),
         Refusal::Input(InputFault::Missing(name)) => put_missing(name, program, &mut page),
         Refusal::NoScript => page.put(
             b"a script is a source, a line of just `%%`, and command lines\n",
@@ -25,20 +30,20 @@ pub(crate) fn advise(rt: &HostRuntime, refusal: &Refusal, program: &Program<'_>,
     put_explained(rt.alloc(), refusal, &mut page);
 }
 
-/// Writes which functions a run may begin with.
-fn put_entries<O: AnswerWriter + Drop>(
+/// Writes that no exported function has the name that was asked for, if one was, and which functions of a source a run may begin with.
+pub(crate) fn put_entries<O: AnswerWriter + Drop>(
     alloc: Global,
-    program: &Program<'_>,
-    texts: Texts<'_>,
+    entry: Option<&str>,
+    source: &[u8],
     page: &mut Page<O>,
 ) {
-    if let Some(name) = program.options.entry {
+    if let Some(name) = entry {
         page.put(b"no exported function is called ");
         page.put_masked(name.as_bytes());
         page.put(b"\n");
     }
     page.put(b"exported functions: ");
-    if put_exported(alloc, texts.source.text, page) == 0 {
+    if put_exported(alloc, source, page) == 0 {
         page.put(b"none; write `export` before the function that the run begins with");
     }
     page.put(b"\n");

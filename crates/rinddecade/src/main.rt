@@ -14,6 +14,7 @@ mod paging;
 mod places;
 mod porting;
 mod profiling;
+mod refused_launches;
 mod refusing;
 mod serving;
 mod terminal;

@@ -4,23 +4,23 @@ ghost use Rattle.ispc_options.specs.Ranges.{AreInRange};
 ghost use Rattle.ispc_debugger.specs.Runs.{lanes_of};
 
 use crate::files::file_front;
+use crate::refused_launches::{
+    MOST_HISTORY, MOST_STEPS, Unread, number_text, refusal_text, unread_text,
+};
 use crate::refusing::{read_fault, refuse, write_fault};
 use adapter_requests::Launch;
 use adapter_server::{Connection, Ended, LaunchMessage, Served};
 use adapter_session::Terms;
 use debug_inputs::MOST_BYTES as MOST_INPUT;
-use debug_streams::StreamWriter;
 use ispc_debugger::{WholeSession, open_whole_session};
 use ispc_options::{Options, Width};
-use ispc_refusals::{Refusal, write_refusal};
+use ispc_refusals::Refusal;
 use ispc_script::MOST_BYTES;
 use std::alloc::AllocError;
-use std::io::{self, Read, Write};
+use std::io::{Read, Write};
 use std::process::ExitCode;
 
-/// The history limit, and the most moves of one command, where a launch has none.
-const HISTORY: u32 = 65_536;
-
+/// The most moves of one command, where a launch says nothing of them.
 const STEPS: u32 = 1_000_000;
 
 /// Serves the editor that is at standard input and output.
@@ -59,10 +59,8 @@ fn serve_next<R: Read + Drop, O: Write + Drop>(
         return Err(Ended::Memory);
     };
     let Some(options) = options_of(&launch) else {
-        connection.refuse_launch(
-            &message,
-            "width is 4, 8 or 16, history 1 to 65536, steps 1 to 10000000",
-        )?;
+        let text = number_text(rt.alloc(), &launch)?;
+        connection.refuse_launch(&message, text.as_str())?;
         return Ok(Served::Restarts);
     };
     match options.width {
@@ -72,22 +70,23 @@ fn serve_next<R: Read + Drop, O: Write + Drop>(
     }
 }
 
-/// The source and the input of a launch, an empty one where it names none.
-fn texts_of(rt: &HostRuntime, launch: &Launch<'_>) -> io::Result<(Vec<u8>, Vec<u8>)> {
-    let source = file_front(rt, launch.program, MOST_BYTES)?;
-    let input = match launch.input {
-        None => Vec::new(rt.alloc()),
-        Some(path) => file_front(rt, path, MOST_INPUT)?,
-    };
-    Ok((source, input))
+/// The source and the input of a launch, an empty one where it names none; or the one that is not read.
+fn texts_of<'a>(rt: &HostRuntime, launch: &Launch<'a>) -> Result<(Vec<u8>, Vec<u8>), Unread<'a>> {
+    let source = text_of(rt, launch.program, MOST_BYTES)?;
+    match launch.input {
+        None => Ok((source, Vec::new(rt.alloc()))),
+        Some(path) => Ok((source, text_of(rt, path, MOST_INPUT)?)),
+    }
 }
 
-/// Why a launch is refused whose files are not read.
-fn why_unread(fault: &io::Error) -> &'static str {
-    if fault.kind() == io::ErrorKind::OutOfMemory {
-        "memory"
-    } else {
-        "the program or its input cannot be read"
+/// The front of a file of a launch.
+fn text_of<'a>(rt: &HostRuntime, path: &'a str, most: usize) -> Result<Vec<u8>, Unread<'a>> {
+    match file_front(rt, path, most) {
+        Ok(text) => Ok(text),
+        Err(fault) => Err(Unread {
+            path,
+            kind: fault.kind(),
+        }),
     }
 }
 
@@ -101,8 +100,8 @@ fn options_of<'a>(launch: &Launch<'a>) -> Option<Options<'a>>
         Some(16) => Width::Sixteen,
         Some(_) => return None,
     };
-    let history = number_within(launch.history, HISTORY, HISTORY)?;
-    let steps = number_within(launch.steps, STEPS, 10_000_000)?;
+    let history = number_within(launch.history, MOST_HISTORY, MOST_HISTORY)?;
+    let steps = number_within(launch.steps, STEPS, MOST_STEPS)?;
     Some(Options {
         width,
         history,
@@ -199,25 +198,13 @@ fn open_launch<const W: usize>(
 {
     let (source, input) = match texts_of(rt, launch) {
         Ok(texts) => texts,
-        Err(fault) => {
-            let text = String::from_str(rt.alloc(), why_unread(&fault))?;
-            return Ok(Opened::Refused(text));
-        }
+        Err(unread) => return Ok(Opened::Refused(unread_text(rt.alloc(), unread)?)),
     };
     match open_whole_session::<W>(rt.alloc(), source.as_slice(), input.as_slice(), options) {
         Ok(session) => Ok(Opened::Session(session)),
-        Err(refusal) => Ok(Opened::Refused(text_of(rt, launch.program, &refusal)?)),
-    }
-}
-
-/// The line that tells a refusal, without its line feed; behind the path of the source, where it names a place there.
-fn text_of(rt: &HostRuntime, path: &str, refusal: &Refusal) -> Result<String, AllocError> {
-    let mut bytes = Vec::new(rt.alloc());
-    let _ = write_refusal(refusal, &mut StreamWriter::new(&mut bytes));
-    let text = String::from_utf8_lossy(rt.alloc(), bytes.as_slice())?;
-    let line = text.trim_end();
-    match refusal {
-        Refusal::Source(_) => format!(in rt.alloc(); "{path}:{line}"),
-        _ => String::from_str(rt.alloc(), line),
+        Err(refusal) => {
+            let text = refusal_text(rt.alloc(), launch, source.as_slice(), &refusal)?;
+            Ok(Opened::Refused(text))
+        }
     }
 }
