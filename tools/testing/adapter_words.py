@@ -82,12 +82,12 @@ def lists_by_words(client, width):
 
 
 def other_lines(client, width):
-    """What is more than one command, or none of the debugger's, stays an expression, and nothing is done."""
+    """What is more than one command, or none of the debugger's, is refused, and nothing is done."""
     with written(RECURSION) as source:
         at_depth_3(client, source, width)
         own = came(client, "info breakpoints")
         for line in OTHERS:
-            need(client.refused("evaluate", expression=line, context="repl").startswith("S"), f"`{line}` is answered")
+            client.refused("evaluate", expression=line, context="repl")
         for context in ("watch", "hover"):
             for line in ("d 1", "fin", "where", "i b"):
                 need(client.refused("evaluate", expression=line, context=context).startswith("S"), f"`{line}` is answered elsewhere")

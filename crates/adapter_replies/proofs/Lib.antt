@@ -13,6 +13,7 @@ pub mod Rows
 pub mod ShownAnswers
 pub mod ToldVariables
 pub mod TopFrame
+pub mod WorkedHints
 pub mod WorkedTargets
 pub mod WorkedThreads
 pub mod WorkedWatches

@@ -1,5 +1,5 @@
 -- What is asked for in the console that is no command.
-use Rattle.std.specs.Prelude.{ℕ, Bool, ◌||◌, ◌++◌, List, [], ◌∷◌, codes, flat_map, nat_eq, if◌then◌else◌}
+use Rattle.std.specs.Prelude.{ℕ, Bool, ◌||◌, ◌++◌, List, [], ◌∷◌, Option, Some, None, codes, flat_map, nat_eq, if◌then◌else◌}
 use Rattle.std.specs.List.{starts_with}
 use Rattle.gang_model.specs.Source.Names.{same_text}
 use Rattle.gang_model.specs.Debugger.Debugger.{Debugger, Setting, now}
@@ -8,7 +8,9 @@ use Rattle.debug_traits.specs.Frames.{scope_at, state_at}
 use Rattle.adapter_requests.specs.declared.request.Context.{Context}
 use Rattle.adapter_requests.specs.declared.request.Context.TheVariants.{Console}
 use Rattle.adapter_replies.specs.declared.console.Asked.{Asked}
-use Rattle.adapter_replies.specs.declared.console.Asked.TheVariants.{Help, Locals, Parameters, Value}
+use Rattle.adapter_replies.specs.declared.console.Asked.TheVariants.{Help, Locals, Parameters, Value, Words}
+use Rattle.adapter_replies.specs.declared.hints.Hinted.{Hinted}
+use Rattle.adapter_replies.specs.Hints.{hint_in}
 use Rattle.adapter_replies.specs.Shown.{shown_text}
 use Rattle.adapter_replies.specs.Variables.{ToldVariable}
 
@@ -16,11 +18,16 @@ use Rattle.adapter_replies.specs.Variables.{ToldVariable}
 abbrev pub is_help : (text : Bytes) → Bool
 is_help text = same_text text (codes "help") || starts_with nat_eq text (codes "help ")
 
--- what a text asks for: in the console help, the parameters or the local variables, and else the value of an expression
+-- what to do in place of a line, where it has a hint, else the value of an expression
+abbrev pub words_or_value : Option Hinted → Asked
+words_or_value None = Value
+words_or_value (Some hinted) = Words hinted
+
+-- what a text asks for: in the console help, the parameters, the local variables or what to do in place of a line, and else the value of an expression
 abbrev pub asked_in : Context → (text : Bytes) → Asked
 asked_in Console text =
     if is_help text then Help
-    else (if same_text text (codes "info args") then Parameters else (if same_text text (codes "info locals") then Locals else Value))
+    else (if same_text text (codes "info args") then Parameters else (if same_text text (codes "info locals") then Locals else words_or_value (hint_in text)))
 asked_in other text = Value
 
 -- the commands, in the debugger's own words

@@ -8,6 +8,7 @@ pub mod Exceptions
 pub mod Expressions
 pub mod Forms
 pub mod Frames
+pub mod Hints
 pub mod Locations
 pub mod Opened
 pub mod Pages

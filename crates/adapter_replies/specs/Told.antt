@@ -35,6 +35,8 @@ use Rattle.adapter_replies.specs.Expressions.{expression_text, is_memory, no_val
 use Rattle.adapter_replies.specs.declared.forms.Form.{Form}
 use Rattle.adapter_replies.specs.Forms.{form_if}
 use Rattle.adapter_replies.specs.Frames.{ToldFrame, all_frames, asked_frames, frame_view}
+use Rattle.adapter_replies.specs.declared.hints.Hinted.{Hinted}
+use Rattle.adapter_replies.specs.Hints.{hinted_text}
 use Rattle.adapter_replies.specs.Locations.{goto_line, told_places}
 use Rattle.adapter_replies.specs.Opened.{opened, opened_by}
 use Rattle.adapter_replies.specs.References.{depth_in, is_frame, place_of, within}
@@ -139,16 +141,24 @@ pub record IsNoValueShown (s : Setting) (d : Debugger) (deep : ℕ) (text : Byte
   pub other : is_memory why ≡ false
   pub shown : told_stop told ≡ Some (None, no_value_text why)
 
+-- the text has no value there, and what to do in its place is told; that there is no memory for the value is told otherwise
+pub record IsHintTold (s : Setting) (d : Debugger) (deep : ℕ) (text : Bytes) (hinted : Hinted) (told : Reply) : Type 0 where
+  pub why : NoValue
+  pub is : HasNoValue text s d deep why
+  pub other : is_memory why ≡ false
+  pub shown : told_stop told ≡ Some (None, hinted_text hinted why)
+
 -- this text alone is told, and nothing opens
 abbrev pub IsTold : Bytes → Reply → Type 0
 IsTold text told = (told_value told ≡ Some (None, text)) × (told_place told ≡ place.Nothing)
 
--- what is told of a text that names no variable, by what it asks for: what can be typed, the parameters or the local variables of the frame at a depth, or the
--- value of the expression that it spells
+-- what is told of a text that names no variable, by what it asks for: what can be typed, the parameters or the local variables of the frame at a depth, what to
+-- do in place of a line that has no value, or the value of the expression that it spells
 abbrev pub IsAskedTold : Asked → Setting → Debugger → (depth : ℕ) → Asking → Reply → Type 0
 IsAskedTold asked.Help s d deep asking told = IsTold help_text told
 IsAskedTold asked.Parameters s d deep asking told = IsTold (parameters_text (told_each asking.form s d deep (place.Parts Arguments deep) 0 (listed_parameters_at s d deep))) told
 IsAskedTold asked.Locals s d deep asking told = IsTold (locals_text s d deep) told
+IsAskedTold (asked.Words hinted) s d deep asking told = IsValueShown s d deep asking told ⊎ IsHintTold s d deep asking.text hinted told
 IsAskedTold asked.Value s d deep asking told = IsValueShown s d deep asking told ⊎ IsNoValueShown s d deep asking.text told
 
 abbrev pub IsExpressionTold : Setting → Debugger → (depth : ℕ) → Asking → Reply → Type 0

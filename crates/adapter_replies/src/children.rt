@@ -124,7 +124,7 @@ fn expression_in(context: Context, text: &str) -> Option<&[u8]>
     let asking = asking_of(context, text, false);
     match asking.asked {
         Asked::Value => Some(asking.text),
-        Asked::Help | Asked::Parameters | Asked::Locals => None,
+        Asked::Help | Asked::Parameters | Asked::Locals | Asked::Words(_) => None,
     }
 }
 

@@ -162,7 +162,7 @@ fn name_length(text: &[u8]) -> usize
 }
 
 /// Whether a byte can stand in a name.
-fn is_name_byte(byte: u8) -> bool
+pub(crate) fn is_name_byte(byte: u8) -> bool
     ensures { result ≡ is_name_byte byte }
 {
     is_letter(byte) || is_digit(byte)

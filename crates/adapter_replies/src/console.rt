@@ -12,6 +12,7 @@ ghost use Rattle.adapter_replies.specs.declared.places.Scope.TheVariants.{Argume
 
 use crate::expressions::plain_value;
 use crate::forms::Form;
+use crate::hints::{Hinted, hint_in};
 use crate::places::Scope;
 use crate::scopes::of_frame;
 use crate::texts::without_end;
@@ -54,11 +55,14 @@ pub(crate) enum Asked {
     Parameters,
     /// The local variables of a frame.
     Locals,
+    /// What to do in place of a line that begins with a word of the prompt or of GDB.
+    Words(Hinted),
     /// The value of an expression.
     Value,
 }
 
-/// What a text asks for: in the console help, the parameters or the local variables, and else the value of an expression.
+/// What a text asks for: in the console help, the parameters, the local variables or what to do in place of a line, and else the value of an
+/// expression.
 pub(crate) fn asked_in(context: Context, text: &str) -> Asked
     ensures { result ≡ spec.asked_in context text.now }
 {
@@ -79,7 +83,17 @@ fn asked_by(text: &str) -> Asked
     } else if is_same(text.as_bytes(), b"info locals") {
         Asked::Locals
     } else {
-        Asked::Value
+        words_or_value(hint_in(text.as_bytes()))
+    }
+}
+
+/// What to do in place of a line, where it has a hint, else the value of an expression.
+fn words_or_value(hinted: Option<Hinted>) -> Asked
+    ensures { result ≡ spec.words_or_value hinted }
+{
+    match hinted {
+        Some(hinted) => Asked::Words(hinted),
+        None => Asked::Value,
     }
 }
 

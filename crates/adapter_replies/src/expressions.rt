@@ -4,15 +4,17 @@ ghost use Rattle.gang_types.specs.Masks.{IsGangWidth, lanes_of};
 ghost use Rattle.gang_model.specs.Debugger.Debugger.{Debugger, Setting};
 ghost use Rattle.frame_values.specs.declared.values.NoValue.TheVariants as no;
 ghost use Rattle.adapter_replies.specs.Asking.{asking_view};
+ghost use Rattle.adapter_replies.specs.Hints as hints;
 ghost use Rattle.adapter_replies.specs.Expressions.{cut, expression_text, gap, lane_text, lanes_text, no_value_text, one_text, refusal_meaning, refusal_name, refusal_text, refused_text, shown_in};
 ghost use Rattle.adapter_replies.specs.Told.{IsExpressionTold, IsAskedTold, told_place, told_value};
-ghost use Rattle.adapter_replies.specs.declared.console.Asked.TheVariants.{Value};
+ghost use Rattle.adapter_replies.specs.declared.console.Asked.TheVariants.{Value, Words};
 ghost use Rattle.adapter_replies.specs.declared.places.Place.TheVariants as place;
 
 use crate::asking::Asking;
 use crate::console::{Asked, help_reply, parameters_reply};
 use crate::exceptions::fault_text;
 use crate::forms::Form;
+use crate::hints::{Hinted, hint_text};
 use crate::locals::locals_reply;
 use crate::texts::word_text;
 use adapter_requests::{Context, Reply};
@@ -31,7 +33,7 @@ const WIDEST: usize = 16;
 const MOST_HOVERED: usize = 200;
 
 /// What a text means that names no variable, where the frame at a depth stands: in the console it may ask for help, the parameters or the
-/// local variables, and else it is an expression.
+/// local variables, or be told what to do in its place, and else it is an expression.
 pub(crate) fn expression_reply<M: ExpressionMachine>(
     alloc: Global,
     machine: &M,
@@ -44,8 +46,43 @@ pub(crate) fn expression_reply<M: ExpressionMachine>(
         Asked::Help => help_reply(alloc),
         Asked::Parameters => parameters_reply(alloc, machine, asking.form, depth),
         Asked::Locals => locals_reply(alloc, machine, depth),
+        Asked::Words(hinted) => hinted_reply(alloc, machine, depth, asking, hinted),
         Asked::Value => value_reply(alloc, machine, depth, asking),
     }
+}
+
+/// The value of a line that begins with a word of the prompt or of GDB, where the frame at a depth stands, or what to do in its place.
+fn hinted_reply<M: ExpressionMachine>(
+    alloc: Global,
+    machine: &M,
+    depth: usize,
+    asking: Asking<'_>,
+    hinted: Hinted,
+) -> Result<Reply, AllocError>
+    ensures { (s : Setting) (d : Debugger) → M.stands machine.now s d → IfOk result (IsAskedTold (Words hinted) s d depth (asking_view asking.entry)) }
+{
+    match value_of_expression(alloc, asking.text, depth, machine) {
+        Ok(value) => {
+            let written = expression_text(alloc, asking.form, &value)?;
+            let text = shown_in(alloc, asking.context, written)?;
+            Ok(plain_value(text))
+        }
+        Err(NoValue::Refused(ExpressionRefusal::Memory)) => Err(AllocError),
+        Err(why) => Ok(Reply::Refused(hinted_text(alloc, hinted, why)?)),
+    }
+}
+
+/// What to do in place of a line; of a word alone, which may be meant for a variable, why it has no value before that.
+fn hinted_text(alloc: Global, hinted: Hinted, why: NoValue) -> Result<String, AllocError>
+    ensures { IfOk result (λ text. string_bytes text ≡ hints.hinted_text hinted why) }
+{
+    if !hinted.is_alone {
+        return String::from_str(alloc, hint_text(hinted.hint));
+    }
+    let mut text = no_value_text(alloc, why)?;
+    text.push_str(". ")?;
+    text.push_str(hint_text(hinted.hint))?;
+    Ok(text)
 }
 
 /// The value of the expression that a text spells where the frame at a depth stands, or why it has none.

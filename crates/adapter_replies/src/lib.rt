@@ -12,6 +12,7 @@ mod exceptions;
 mod expressions;
 mod forms;
 mod frames;
+mod hints;
 mod locals;
 mod locations;
 mod opened;
