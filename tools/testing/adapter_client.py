@@ -20,6 +20,7 @@ from .adapter_conditions import CONDITION_CHECKS
 from .adapter_formats import FORMAT_CHECKS
 from .adapter_frames import FRAME_CHECKS, written
 from .adapter_functions import FUNCTION_CHECKS
+from .adapter_hints import HINT_CHECKS
 from .adapter_lanes import LANE_CHECKS
 from .adapter_launches import LAUNCH_CHECKS
 from .adapter_logs import LOG_CHECKS
@@ -249,13 +250,14 @@ def watches(client, examples):
 
 
 def breaks(client, examples):
-    """Breakpoints: those of a list take the place of those before, and another source has none."""
+    """Breakpoints: those of a list take the place of those before, and another source has none, nor has one without a path."""
     client.launch(examples / "lanes.ispc", stopOnEntry=False)
     same([it["line"] for it in client.breakpoints(1, 5)], [2, 5])
     made = client.breakpoints(5)
     same([(it["verified"], it["line"]) for it in made], [(True, 5)])
-    other = client.ask("setBreakpoints", source={"path": "/another.ispc"}, breakpoints=[{"line": 2}])["breakpoints"]
-    same([it["verified"] for it in other], [False])
+    for source in ({"path": "/another.ispc"}, {"name": "lanes.ispc"}, {"path": None}, {}):
+        other = client.ask("setBreakpoints", source=source, breakpoints=[{"line": 2}, {"line": 5}])["breakpoints"]
+        same([it["verified"] for it in other], [False, False])
     same([it["verified"] for it in client.breakpoints(5, 100)], [True, False])
     listed = client.ask("evaluate", expression="info breakpoints", context="repl")["result"]
     same(len(listed.splitlines()), 1)
@@ -436,7 +438,7 @@ def wrong_requests(client, examples):
     same(client.refused("next", threadId=1), "no program is launched")
     same(client.refused("launch"), "the argument `program` is missing or of a wrong type")
     need(client.refused("launch", program="/nowhere/at.all") != "", "no reason")
-    same(client.refused("launch", program=str(examples / "first.ispc"), width=5), "width is 4, 8 or 16, history 1 to 65536, steps 1 to 10000000")
+    same(client.refused("launch", program=str(examples / "first.ispc"), width=5), "width 5: it is 4, 8 or 16")
     client.launch(examples / "first.ispc")
     client.begin()
     same(client.refused("stepInTargets", frameId=1), "no request stepInTargets")
@@ -459,7 +461,7 @@ def wrong_requests(client, examples):
     client.end()
 
 
-CHECKS = [steps_and_back, watches, breaks, locations, variables, frames, faults, filters, the_end, wrong_requests, *FRAME_CHECKS, *LANE_CHECKS, *LAUNCH_CHECKS, *LOG_CHECKS, *VALUE_CHECKS, *TARGET_CHECKS, *CHILD_CHECKS, *FORMAT_CHECKS, *MOVE_CHECKS, *CONDITION_CHECKS, *FUNCTION_CHECKS, *RESTART_CHECKS, *WATCHED_CHECKS, *PROGRAM_CHECKS, *WORD_CHECKS, *BEFORE_CHECKS]
+CHECKS = [steps_and_back, watches, breaks, locations, variables, frames, faults, filters, the_end, wrong_requests, *FRAME_CHECKS, *LANE_CHECKS, *LAUNCH_CHECKS, *LOG_CHECKS, *VALUE_CHECKS, *TARGET_CHECKS, *CHILD_CHECKS, *FORMAT_CHECKS, *MOVE_CHECKS, *CONDITION_CHECKS, *FUNCTION_CHECKS, *RESTART_CHECKS, *WATCHED_CHECKS, *PROGRAM_CHECKS, *WORD_CHECKS, *HINT_CHECKS, *BEFORE_CHECKS]
 
 
 def check(root, command):

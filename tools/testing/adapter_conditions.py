@@ -199,6 +199,21 @@ def at_the_start(client, examples):
         client.end()
 
 
+def without_value_at_the_start(client, examples):
+    """A condition that has no value on the first statement stops there too, and the console is told why before it, where a run begins and begins anew."""
+    with written(SOURCE) as path:
+        for condition, why in (("1 / total > 0", "F1 DivideByZero in lane 0: the expression has no value"), ("odd", NO_NAME)):
+            [number] = launched(client, path, (START, {"condition": condition}), stopOnEntry=False)
+            for again in ("configurationDone", "restart"):
+                client.ask(again)
+                same(client.event("output")["output"], f"the condition has no value: {why}\n")
+                stop = client.event("stopped")
+                same((stop["reason"], stop["hitBreakpointIds"], client.place()), ("breakpoint", [number], [(START, 5, "go [1111]")]))
+            client.again()
+        client.ask("initialize", adapterID="rinddecade")
+        client.end()
+
+
 def restarts(client, examples):
     """A restart keeps the conditions and the numbers, and the counts begin anew."""
     with written(SOURCE) as path:
@@ -239,5 +254,5 @@ def in_the_console(client, examples):
 
 
 CONDITION_CHECKS = [
-    in_some_lane, of_negatives_and_bools, two_conditions, on_one_line, counts, without_value, in_a_call, at_the_start, restarts, steps, in_the_console,
+    in_some_lane, of_negatives_and_bools, two_conditions, on_one_line, counts, without_value, in_a_call, at_the_start, without_value_at_the_start, restarts, steps, in_the_console,
 ]

@@ -114,4 +114,18 @@ def large_numbers(client, examples):
         client.end()
 
 
-RESTART_CHECKS = [same_numbers, gone_lines, large_numbers]
+def on_one_line(client, examples):
+    """Numbers are kept in a source of one line too, and those before them are used up."""
+    with written("export void go() { int x = 1; x += 2; }\n") as path:
+        client.launch(path)
+        for number in (1, 2, 3):
+            same(told(ask(client, (1, {}))), [number])
+        client.begin()
+        client.ask("restart")
+        same(client.event("stopped")["reason"], "entry")
+        same(numbers(client), [3])
+        same(told(ask(client, (1, {}))), [4])
+        client.end()
+
+
+RESTART_CHECKS = [same_numbers, gone_lines, large_numbers, on_one_line]

@@ -171,6 +171,7 @@ def marks():
         "a mark past column 80": (long, b"1:177: S1 BadByte\n" + marked(1, b"..." + long[-60:], 61)),
         "a mark behind letters of several bytes": (b"/* \xc3\xa9\xe2\x82\xac */ @", b"1:13: S1 BadByte\n" + marked(1, b"/* \xc3\xa9\xe2\x82\xac */ @", 9)),
         "controls are masked": (b"/* \x1b[31m\x07\x7f\xc2\x9b */ @", b"1:17: S1 BadByte\n" + marked(1, b"/* ?[31m??\xc2? */ @", 16)),
+        "bytes beside the controls stay": (b"/* ~\xc2\xa0\xc3\x9f\xc2\x80\x1f */ @", b"1:16: S1 BadByte\n" + marked(1, b"/* ~\xc2\xa0\xc3\x9f\xc2?? */ @", 13)),
     }
     return [told(name, ["go.ispc"], errors + explained(b"S1"), {"go.ispc": text}) for name, (text, errors) in rows.items()]
 

@@ -1,4 +1,8 @@
-"""Which functions `info functions` lists, and how many lines `list` shows: both are worked out here from the source's lines."""
+"""Which functions `info functions` lists, and how many lines `list` shows: both are worked out here from the source's lines; and which of its bytes
+`list` shows as they are: all but the last ones of control characters, as Unicode has them.
+"""
+
+import unicodedata
 
 from .tried import Run, shown
 
@@ -92,5 +96,27 @@ def frame(width):
     return [place, *marked, *(f"   {at:5}  {TEXT[at - 1]}" for at in (LINE + 1, LINE + 2))]
 
 
+# Comments with each character up to U+00FF but the line feed, and some of more bytes, and a byte that is no character behind one that may begin one.
+CHARACTERS = ["".join(map(chr, [*range(10), *range(11, 128)])), "".join(map(chr, range(128, 256))), "\u2019 \u20ac \ufb9f \U0001f600"]
+BYTES = [it.encode() for it in CHARACTERS] + [b"\xc3\x80\x9b \xc2 \x9f"]
+
+
+def seen(character):
+    is_masked = unicodedata.category(character) == "Cc" and character != "\t"
+    return character.encode()[:-1] + b"?" if is_masked else character.encode()
+
+
+def controls():
+    """A source whose comments have all kinds of bytes."""
+    source = b"".join(b"// %s\n" % it for it in BYTES) + b"export void go() { }\n"
+    texts = [b"".join(map(seen, it)) for it in CHARACTERS] + BYTES[len(CHARACTERS) :]
+    last = b"".join(b"   %5d  // %s\n" % row for row in enumerate(texts, 1))
+
+    def judge(text):
+        return [] if text.endswith(last) else ["this is wanted at the end:", *shown(last), "it came:", *shown(text[-len(last) :])]
+
+    return Run("bytes of a source that are listed", b"list 1,%d\n" % len(BYTES), ["debug", FILE], judge, b"", data={FILE: source})
+
+
 def runs():
-    return [made(width) for width in (4, 8, 16) for made in (functions, sizes)]
+    return [made(width) for width in (4, 8, 16) for made in (functions, sizes)] + [controls()]
