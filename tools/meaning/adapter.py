@@ -13,6 +13,23 @@ GONE = ("continue", "reverseContinue")
 HOVERED, WAITS = 200, " (waits)"
 TARGET = re.compile(r"([A-Za-z_]\w*)(?:\[(\d+)\])?")
 STOPS = (("breakpoint", "breakpoint "), ("data breakpoint", "watch "), ("exception", "fault "), ("pause", "step limit: "))
+MEANINGS = {
+    1: "a variable, a lane or an element is set to a number, true or false",
+    2: "there is no such variable, lane or element here, or it cannot be set or watched",
+    3: "nothing is kept that could be taken back",
+    4: "the program has ended; a step back goes back into it, and a restart begins it anew",
+    6: "this is the outermost frame, which no other called",
+    7: "no line from there on has a step",
+    8: "an index is past the end, or a value outside its range",
+    9: "constants and the indices of foreach are not set",
+    10: "no breakpoint or watch has this number",
+    11: "64 breakpoints and watches are there; one that is removed makes room",
+}
+
+
+def refusal_text(refused):
+    """What an editor is told of a refusal: its number, its name and what it means."""
+    return f"{refused}: {MEANINGS[refused.number]}"
 
 
 class Adapter(Looks):

@@ -34,6 +34,7 @@ class Refused(Exception):
 
     def __init__(self, number):
         super().__init__(f"C{number} {REFUSALS[number]}")
+        self.number = number
 
 
 class Debugger:

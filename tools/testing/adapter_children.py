@@ -6,6 +6,7 @@ Each value is worked out here by the numbers of the lanes.
 from .adapter_formats import digits
 from .adapter_frames import NO_FRAME, NO_REFERENCE, NOT_SET, RECURSION, at_depth_3, written
 from .adapter_members import WAITS, need, same
+from .adapter_refusals import NO_HISTORY
 from .adapter_targets import CONTEXTS, asked, at_widths
 from .adapter_values import HALF, TYPES, at_half, children, joined, wrapped
 
@@ -193,7 +194,7 @@ def held_to_the_next_stop(client, width):
             gone()
         client.move("reverseContinue")
         gone()
-        client.refused_move("stepBack", "C3 NoHistory")
+        client.refused_move("stepBack", NO_HISTORY)
         gone()
         client.ask("setVariable", variablesReference=client.scopes(1)[2], name="total", value="8")
         same([lanes_of(client, it) for it in opened], values)

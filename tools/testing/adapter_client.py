@@ -26,6 +26,7 @@ from .adapter_launches import LAUNCH_CHECKS
 from .adapter_logs import LOG_CHECKS
 from .adapter_moves import MOVE_CHECKS
 from .adapter_programs import PROGRAM_CHECKS
+from .adapter_refusals import NO_HISTORY, OUTERMOST, OUT_OF_RANGE
 from .adapter_restarts import RESTART_CHECKS
 from .adapter_targets import TARGET_CHECKS
 from .adapter_values import VALUE_CHECKS
@@ -297,7 +298,7 @@ def variables(client, examples):
     same(client.ask("setVariable", variablesReference=local["x"]["variablesReference"], name="x[1]", value="7")["value"], "7")
     same(client.ask("evaluate", expression="x", context="hover")["result"], "0 7 6 9")
     same(client.ask("setVariable", variablesReference=scopes[0], name="x", value="-2")["value"], "-2 -2 -2 -2")
-    same(client.refused("setVariable", variablesReference=scopes[0], name="x", value="3000000000"), "C8 OutOfRange")
+    same(client.refused("setVariable", variablesReference=scopes[0], name="x", value="3000000000"), OUT_OF_RANGE)
     same(client.ask("evaluate", expression="undo", context="repl")["result"], "undone poke: at 3:5 go depth 1 lanes 1111")
     same(client.event("stopped")["reason"], "step")
     same(client.ask("evaluate", expression="x", context="hover")["result"], "0 7 6 9")
@@ -335,7 +336,7 @@ def faults(client, examples):
     same((told["exceptionId"], told["breakMode"], told["details"]["typeName"]), ("F1 DivideByZero", "always", "F1 DivideByZero"))
     same(told["description"], "in lane 1\n\n" + page_of(client, "F1", "DivideByZero"))
     same(client.move("stepIn")["reason"], "exception")
-    same(client.refused_move("stepOut", "C6 Outermost")["reason"], "exception")
+    same(client.refused_move("stepOut", OUTERMOST)["reason"], "exception")
     same(client.ask("exceptionInfo", threadId=1), told)
     same(client.move("stepBack")["text"], "at 7:5 go depth 1 lanes 1111")
     same(client.refused("exceptionInfo", threadId=1), "the program stands at no fault")
@@ -393,7 +394,7 @@ def the_end(client, examples):
     client.ask("restart")
     same(client.event("stopped")["reason"], "entry")
     same(client.place(), [(2, 5, "go [11111111]")])
-    same(client.refused_move("stepBack", "C3 NoHistory")["reason"], "entry")
+    same(client.refused_move("stepBack", NO_HISTORY)["reason"], "entry")
     same(client.move("continue")["reason"], "breakpoint")
     client.ask("terminate")
     client.event("terminated")

@@ -6,6 +6,7 @@ The program runs a loop of 50 rounds. Where line 9 stands, `x` of a lane is the 
 
 from .adapter_frames import NO_NAME, written
 from .adapter_members import need, same
+from .adapter_refusals import NO_HISTORY
 
 WIDTHS = (4, 16)
 ROUNDS = 50
@@ -189,7 +190,7 @@ def at_the_start(client, examples):
         [number] = launched(client, path, (START, {"condition": "total == 0"}), stopOnEntry=False)
         stop = client.begin()
         same((stop["reason"], stop["hitBreakpointIds"], client.place()[0][0]), ("breakpoint", [number], START))
-        same(client.refused_move("stepBack", "C3 NoHistory")["hitBreakpointIds"], [number])
+        same(client.refused_move("stepBack", NO_HISTORY)["hitBreakpointIds"], [number])
         client.again()
         first, second = launched(client, path, (START, {"condition": "total == 1"}), (X, {"condition": "i == 2"}), stopOnEntry=False)
         hit(client, client.begin(), second, X, 2)

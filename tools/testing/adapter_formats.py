@@ -2,6 +2,7 @@
 
 from .adapter_frames import RECURSION, at_depth_3, row, written
 from .adapter_members import need, same
+from .adapter_refusals import NO_SUCH_NAME
 from .adapter_targets import UNKNOWN, at_widths
 from .adapter_values import HALF, at_half
 
@@ -49,7 +50,7 @@ def prints_of_each_frame(client, width):
             same(typed(client, f"{word} k + 1"), row(it + 1 for it in own[3]))
             same(typed(client, f"{word} total", 1), "7")
             same(client.refused("evaluate", expression=f"{word} x", context="repl", frameId=2), f"S5 UnknownName, column 1: {UNKNOWN}")
-            same(client.refused("evaluate", expression=f"{word} x", context="repl", frameId=3), "C2 NoSuchName")
+            same(client.refused("evaluate", expression=f"{word} x", context="repl", frameId=3), NO_SUCH_NAME)
             same(client.refused("evaluate", expression=f"{word} k", context="repl", frameId=9), "no frame has this number now")
         for depth in (2, 3):
             same(sorted(typed(client, "info locals", depth).split("\n")), ["deep = -5", "r = " + row(it + 10 for it in own[depth])])

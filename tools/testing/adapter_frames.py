@@ -5,6 +5,7 @@ import pathlib
 import tempfile
 
 from .adapter_members import same
+from .adapter_refusals import BAD_VALUE, CONSTANT, NO_SUCH_NAME, OUT_OF_RANGE
 
 # A function that calls itself, from depth 2 down to depth 4: at depth 2 `k` is 0 in even lanes and 1 in odd ones, at each depth below it
 # is one more. Line 8 is the test at which the breakpoint stands.
@@ -139,10 +140,10 @@ def sets_in_frames(client, examples):
         same(given(client.scopes(1)[0], "y", "-6"), "-6")
         same(client.ask("setExpression", expression="x", value="8", frameId=1, format={"hex": True})["value"], "0x8 0x8 0x8 0x8")
         same((client.value("x", 1), client.value("y", 1)), ("8 8 8 8", "-6"))
-        same(client.refused("setVariable", variablesReference=local, name="deep", value="128"), "C8 OutOfRange")
-        same(client.refused("setVariable", variablesReference=parts, name="k[4]", value="1"), "C8 OutOfRange")
-        same(client.refused("setExpression", expression="x", value="1", frameId=2), "C2 NoSuchName")
-        same(client.refused("setExpression", expression="k + 1", value="1", frameId=2), "C1 BadCommand")
+        same(client.refused("setVariable", variablesReference=local, name="deep", value="128"), OUT_OF_RANGE)
+        same(client.refused("setVariable", variablesReference=parts, name="k[4]", value="1"), OUT_OF_RANGE)
+        same(client.refused("setExpression", expression="x", value="1", frameId=2), NO_SUCH_NAME)
+        same(client.refused("setExpression", expression="k + 1", value="1", frameId=2), BAD_VALUE)
         same(client.ask("setExpression", expression="total", value="-8", frameId=2)["value"], "-8")
         same([client.value("total", depth) for depth in (1, 2, 3)], ["-8"] * 3)
         same(values_in_frames(client, (3,)), {3: before[3]})
@@ -170,8 +171,8 @@ def console_sets_in_frames(client, examples):
         client.event("stopped")
         same(client.value("deep", 2), "-5")
         same(typed("set var even = true", frameId=1)["result"], "even = true true true true")
-        same(client.refused("evaluate", expression="set var x = 1", context="repl", frameId=2), "C2 NoSuchName")
-        same(client.refused("evaluate", expression="set var k[4] = 1", context="repl", frameId=2), "C8 OutOfRange")
+        same(client.refused("evaluate", expression="set var x = 1", context="repl", frameId=2), NO_SUCH_NAME)
+        same(client.refused("evaluate", expression="set var k[4] = 1", context="repl", frameId=2), OUT_OF_RANGE)
         for frame in ({}, {"frameId": 3}):
             same(typed("set var k = 4", **frame)["result"], "k = 4 4 4 4")
             same((client.value("k", 3), client.value("k", 2)), ("4 4 4 4", "9 7 9 9"))
@@ -201,8 +202,8 @@ def goes_on_with_what_is_set(client, examples):
         client.move("continue")
         same([it[0] for it in client.place()], [2, 7])
         same(client.ask("setExpression", expression="x", value="10", frameId=1)["value"], "10 10 10 10")
-        same(client.refused("setExpression", expression="most", value="7", frameId=1), "C9 Constant")
-        same(client.refused("evaluate", expression="set var most[1] = 7", context="repl", frameId=1), "C9 Constant")
+        same(client.refused("setExpression", expression="most", value="7", frameId=1), CONSTANT)
+        same(client.refused("evaluate", expression="set var most[1] = 7", context="repl", frameId=1), CONSTANT)
         same((client.value("k", 2), client.value("x", 1), client.value("most", 1)), ("0 1 2 3", "10 10 10 10", "4 4 4 4"))
         client.move("continue")
         same((client.value("y"), client.value("x")), ("1 2 3 4", "11 12 13 14"))

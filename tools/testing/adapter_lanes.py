@@ -6,6 +6,7 @@ others but lane 0 have two and wait in theirs, and lane 0 waits in `go`: each se
 
 from .adapter_frames import written
 from .adapter_members import need, same
+from .adapter_refusals import NO_HISTORY
 
 WIDTHS = (4, 8, 16)
 SOURCE = """uniform int total = 0;
@@ -150,7 +151,7 @@ def moves_of_threads(client, examples):
         same((client.event("stopped")["threadId"], stack(client, 1)), (2, in_deeper(4, 1)))
         client.breakpoints()
         client.move("reverseContinue")
-        same(client.refused_move("stepBack", "C3 NoHistory")["threadId"], 1)
+        same(client.refused_move("stepBack", NO_HISTORY)["threadId"], 1)
         client.end()
 
 

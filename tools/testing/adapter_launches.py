@@ -2,6 +2,7 @@
 
 from .adapter_frames import written
 from .adapter_members import need, same
+from .adapter_refusals import NO_HISTORY
 
 # Two entries, and more lines than there can be breakpoints.
 ENTRIES = "export void go() {\n    int x = 1;\n}\nexport void other() {\n    int y = programIndex - 1;\n    y += 1;\n}\n"
@@ -41,7 +42,7 @@ def history(client, examples):
     client.move("stepBack")
     client.move("stepBack")
     same(client.place(), places[1])
-    same(client.refused_move("stepBack", "C3 NoHistory")["reason"], "step")
+    same(client.refused_move("stepBack", NO_HISTORY)["reason"], "step")
     client.end()
 
 
@@ -74,7 +75,7 @@ def ranges(client, examples):
         places = [client.place(), *((client.move("continue"), client.place())[1] for _ in range(2))]
         same([it[0][:2] for it in places], [(2, 5), (3, 5), (4, 5)])
         same((client.move("stepBack"), client.place())[1], places[1])
-        same(client.refused_move("stepBack", "C3 NoHistory")["reason"], "step")
+        same(client.refused_move("stepBack", NO_HISTORY)["reason"], "step")
         client.end()
 
 
@@ -106,7 +107,7 @@ def first_statement(client, examples):
     stop = client.begin()
     same((stop["reason"], stop["hitBreakpointIds"]), ("breakpoint", [made[1]["id"]]))
     same(stop["text"], f"breakpoint {made[1]['id']}: at 2:5 go depth 1 lanes 1111")
-    same(client.refused_move("stepBack", "C3 NoHistory")["hitBreakpointIds"], [made[1]["id"]])
+    same(client.refused_move("stepBack", NO_HISTORY)["hitBreakpointIds"], [made[1]["id"]])
     same(client.move("continue")["hitBreakpointIds"], [made[0]["id"]])
     client.end()
 

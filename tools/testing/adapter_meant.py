@@ -15,7 +15,7 @@ import sys
 import tempfile
 import threading
 
-from meaning.adapter import GONE, LINES, WAITS, Adapter
+from meaning.adapter import GONE, LINES, WAITS, Adapter, refusal_text
 from meaning.debugging import Refused
 from meaning.values import Fault
 
@@ -87,7 +87,7 @@ class Told:
             reason, ids, text = meant.moved(command)
             wanted = reason, ids, text, list(meant.console), meant.thread_of(text) if self.has_lanes else 1
         except Refused as refused:
-            wanted = str(refused)
+            wanted = refusal_text(refused)
         self.note("move", wanted, command)
         if self.is_in(60):
             self.stack()
@@ -133,7 +133,7 @@ class Told:
             wanted = self.meant.looked_up(text, depth, context, is_hexadecimal)
             opened = self.opened(text, depth, is_hexadecimal) if wanted[1] else None
         except Refused as refused:
-            wanted, opened = str(refused), None
+            wanted, opened = refusal_text(refused), None
         except Fault as fault:
             wanted, opened = f"{fault.name} in lane {fault.lane}: the expression has no value", None
         self.note("value", (wanted, opened), text, depth, context, is_hexadecimal)
@@ -160,7 +160,7 @@ class Told:
         try:
             wanted = (self.meant.set(at, target, value, is_hexadecimal),)
         except Refused as refused:
-            wanted = str(refused)
+            wanted = refusal_text(refused)
         self.note("set", wanted, at, which, name, part[0] if part else None, target, value, is_hexadecimal, self.is_in(40))
 
     # ---- a session

@@ -3,6 +3,7 @@
 from .adapter_frames import NO_FRAME, NOT_SET, RECURSION, at_depth_3, written
 from .adapter_launches import LINES
 from .adapter_members import same
+from .adapter_refusals import BAD_VALUE, CONSTANT, ENDED, TABLE_FULL
 
 # Which time of a line a target is, by the last digit of its number in the base 2.
 NEXT, LAST = 0, 1
@@ -49,8 +50,8 @@ def goes(client, examples):
     same(go(client, 6, NEXT), ("goto", 6))
     same(go(client, 2, NEXT), ("goto", None))
     same(client.ask("evaluate", expression="info breakpoints", context="repl")["result"], "none")
-    same(client.refused("goto", threadId=1, targetId=8), "C4 Ended")
-    same(client.event("stopped")["text"], "C4 Ended")
+    same(client.refused("goto", threadId=1, targetId=8), ENDED)
+    same(client.event("stopped")["text"], ENDED)
     same(go(client, 7, LAST), ("goto", 7))
     client.end()
 
@@ -70,8 +71,8 @@ def goes_by_breakpoints(client, examples):
         client.launch(path)
         client.breakpoints(*range(3, 67))
         client.begin()
-        same(client.refused("goto", threadId=1, targetId=2 * 70), "C11 TableFull")
-        same(client.event("stopped")["text"], "C11 TableFull")
+        same(client.refused("goto", threadId=1, targetId=2 * 70), TABLE_FULL)
+        same(client.event("stopped")["text"], TABLE_FULL)
         same(client.place()[0][0], 2)
         client.end()
 
@@ -85,8 +86,9 @@ def sets_expressions(client, examples):
     same(client.value("x"), "0 7 6 9")
     same(client.ask("setExpression", expression="x[1]", value="5 (waits)")["value"], "5")
     same(client.ask("setExpression", expression="x", value="-2")["value"], "-2 -2 -2 -2")
-    same(client.refused("setExpression", expression="x + 1", value="7"), "C1 BadCommand")
-    same(client.refused("setExpression", expression="x", value="x"), "C1 BadCommand")
+    same(client.refused("setExpression", expression="x + 1", value="7"), BAD_VALUE)
+    for value in ("x", "x + 1", "q", "", "1 2"):
+        same(client.refused("setExpression", expression="x", value=value), BAD_VALUE)
     same(client.refused("setExpression", expression="x", value="7", frameId=2), NOT_SET)
     same(client.value("x"), "-2 -2 -2 -2")
     client.end()
@@ -109,8 +111,8 @@ def constants(client, examples):
         same(hints(local), {"x": ["constant", "readOnly"], "y": []})
         same(hints(client.variables(file)), {"most": ["constant", "readOnly"]})
         same(list(hints(client.variables(local["x"]["variablesReference"])).values()), [["constant", "readOnly"]] * 4)
-        same(client.refused("setVariable", variablesReference=locals, name="x", value="7"), "C9 Constant")
-        same(client.refused("setExpression", expression="most", value="7"), "C9 Constant")
+        same(client.refused("setVariable", variablesReference=locals, name="x", value="7"), CONSTANT)
+        same(client.refused("setExpression", expression="most", value="7"), CONSTANT)
         client.end()
 
 

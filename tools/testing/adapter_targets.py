@@ -2,11 +2,11 @@
 
 from .adapter_frames import NO_REFERENCE, RECURSION, at_depth_3, row, written
 from .adapter_members import WAITS, need, same
+from .adapter_refusals import OUT_OF_RANGE
 from .adapter_values import HALF, at_half, children, elements, in_arrays, shown, TABLE
 
 WIDTHS = (4, 8, 16)
 CONTEXTS = ("watch", "hover", "repl", "variables", None)
-PAST_THE_END = "C8 OutOfRange"
 UNKNOWN = "no variable of this name is in scope in this frame or of the file"
 NO_INDEX = "S8 Type"
 
@@ -51,7 +51,7 @@ def targets_in_each_frame(client, width):
                 told = client.ask("evaluate", **asked(text, depth, context))["result"]
                 same(told, f"{name} = {value}" if name else str(value))
             for text, depth in [(f"x[{width}]", 1), (f"k[{width}]", 2), (f"k[{width}]", 3), ("table[5]", 1), ("table[5]", 3), ("wide[99]", 2)]:
-                same(client.refused("evaluate", **asked(text, depth, context)), PAST_THE_END)
+                same(client.refused("evaluate", **asked(text, depth, context)), OUT_OF_RANGE)
             for text, depth in [("y[0]", 1), ("deep[0]", 2), ("total[0]", 1), ("x[2] + 1", 1), ("k[1 - 1]", 2)]:
                 need(client.refused("evaluate", **asked(text, depth, context)).startswith(NO_INDEX), f"{text} has a value at depth {depth}")
             for text in ("x", "x[2]"):
@@ -125,7 +125,7 @@ def waiting_and_many(client, width):
         same(shown(children(client, pieces[2]["variablesReference"])), elements("table", TABLE, 2000, 2500))
         same(client.ask("evaluate", **asked("part", 2, "watch"))["variablesReference"], client.variables(client.scopes(2)[1])["part"]["variablesReference"])
         same(client.value("table[2499]", 1), str(TABLE[2499]))
-        same(client.refused("evaluate", **asked("table[2500]", 1, "watch")), PAST_THE_END)
+        same(client.refused("evaluate", **asked("table[2500]", 1, "watch")), OUT_OF_RANGE)
         client.end()
 
 

@@ -6,6 +6,7 @@ import tempfile
 
 from .adapter_frames import NO_FRAME, NO_REFERENCE, RECURSION, at_depth_3, row, written
 from .adapter_members import WAITS, need, same
+from .adapter_refusals import NO_LINE, NO_SUCH_NAME, NO_SUCH_NUMBER, OUT_OF_RANGE
 
 WIDTHS = (8, 16)
 
@@ -99,8 +100,11 @@ def refuses_in_frames(client):
         for context in ("watch", "hover", "repl"):
             same(client.refused("evaluate", expression=text, context=context, frameId=depth), why)
     same(client.refused("evaluate", expression="k +", context="watch").split(":")[0].split(",")[0], "S3 Unexpected")
-    same(client.refused("evaluate", expression="table[7]", context="watch"), "C8 OutOfRange")
-    same(client.refused("evaluate", expression="print nothing", context="repl"), "C2 NoSuchName")
+    same(client.refused("evaluate", expression="table[7]", context="watch"), OUT_OF_RANGE)
+    same(client.refused("evaluate", expression="print nothing", context="repl"), NO_SUCH_NAME)
+    same(client.refused("evaluate", expression="watch nothing", context="repl"), NO_SUCH_NAME)
+    same(client.refused("evaluate", expression="break 9999", context="repl"), NO_LINE)
+    same(client.refused("evaluate", expression="delete 77", context="repl"), NO_SUCH_NUMBER)
 
 
 def types(client, width):

@@ -38,6 +38,7 @@ use Rattle.adapter_replies.specs.Forms.{asked_form}
 use Rattle.adapter_replies.specs.Frames.{ToldFrame, all_frames, asked_frames, call_frame, call_told, calls_told, frame_name, standing_frame}
 use Rattle.adapter_replies.specs.declared.places.Scope.TheVariants.{Locals, Arguments}
 use Rattle.adapter_replies.specs.References.{depth_in, is_set_there, place_now, place_of}
+use Rattle.adapter_replies.specs.Meanings.{meaning_of, told_text, unset_text}
 use Rattle.adapter_replies.specs.Shown.{shown_text, without_end}
 use Rattle.adapter_replies.specs.Stopped.{goto_reason, reason_of}
 use Rattle.adapter_replies.specs.Expressions.{lanes_text, one_text, shown_in}
@@ -380,11 +381,28 @@ whole_answer : (target : _) (shown : _) (told : _) (name text words : Bytes) →
 whole_answer target shown told name text words is = ap (λ line. Some (None, line)) is
 
 -- a refusal is told as one
-refused_place : (told : _) (name text words : Bytes) → string_bytes told ≡ shown_text text → IsEvaluated Watch name false (Some (answer.Refused refusal.OutOfRange)) text words (reply.Refused told)
+refused_place : (told : _) (name text words : Bytes) → string_bytes told ≡ told_text (answer.Refused refusal.OutOfRange) text → IsEvaluated Watch name false (Some (answer.Refused refusal.OutOfRange)) text words (reply.Refused told)
 refused_place told name text words is = ap (λ line. Some (None, line)) is
 
 no_refused_value : (told : _) (why : _) (name text words : Bytes) → IsEvaluated Watch name false (Some (answer.Refused refusal.OutOfRange)) text words (reply.Evaluated told why 0) → ⊥
 no_refused_value told why name text words says = cc says
+
+-- behind its number and name a refusal is told with what it means
+no_history : (text : Bytes) → shown_text text ≡ codes "C3 NoHistory" → told_text (answer.Refused refusal.NoHistory) text ≡ codes "C3 NoHistory: nothing is kept that could be taken back"
+no_history text is = ap (λ shown. (shown ++ codes ": ") ++ meaning_of refusal.NoHistory) is
+
+outermost : (text : Bytes) → shown_text text ≡ codes "C6 Outermost" → told_text (answer.Refused refusal.Outermost) text ≡ codes "C6 Outermost: this is the outermost frame, which no other called"
+outermost text is = ap (λ shown. (shown ++ codes ": ") ++ meaning_of refusal.Outermost) is
+
+no_refusal : (text : Bytes) → told_text answer.HistoryEnd text ≡ shown_text text
+no_refusal text = refl
+
+-- a value that is none means another thing than a line that is no command
+no_value : unset_text (answer.Refused refusal.BadCommand) (codes "C1 BadCommand\n") ≡ codes "C1 BadCommand: a variable, a lane or an element is set to a number, true or false"
+no_value = refl
+
+unset_constant : (text : Bytes) → shown_text text ≡ codes "C9 Constant" → unset_text (answer.Refused refusal.Constant) text ≡ codes "C9 Constant: constants and the indices of foreach are not set"
+unset_constant text is = ap (λ shown. (shown ++ codes ": ") ++ meaning_of refusal.Constant) is
 
 -- a value that was set in an outer frame: the answer says nothing, nor does that to another line
 set_in_an_outer_frame : set_unsaid answer.Silent Console (codes "set var x[1] = 5") ≡ Some (record { name = codes "x"; at = Some 1 })

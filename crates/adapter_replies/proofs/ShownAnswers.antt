@@ -9,7 +9,7 @@ use Rattle.adapter_requests.specs.declared.request.Context.{Context}
 use Rattle.adapter_replies.specs.Expressions.{shown_in}
 use Rattle.adapter_replies.specs.Opened.{unless_refused}
 use Rattle.adapter_replies.specs.declared.places.Place.{Place}
-use Rattle.adapter_replies.specs.Shown.{shown_text}
+use Rattle.adapter_replies.specs.Meanings.{unset_text}
 use Rattle.adapter_replies.specs.Told.{IsLineTold, IsSetTold, IsValueTold, has_values, shown_option, told_stop, told_value}
 
 -- a variable is set to the values that an answer shows
@@ -18,7 +18,7 @@ set_to (answer.Shows target shown) text values value some = cc
 set_to other text values value some = absurd cc
 
 -- where it shows none, it is told as why the variable was not set
-pub not_set : (given : Answer) (text values : Bytes) (told : Reply) → None ≡ shown_option given values → told_stop told ≡ Some (None, shown_text text) → IsSetTold (Some given) text values told
+pub not_set : (given : Answer) (text values : Bytes) (told : Reply) → None ≡ shown_option given values → told_stop told ≡ Some (None, unset_text given text) → IsSetTold (Some given) text values told
 not_set (answer.Shows target shown) text values told none says = absurd cc
 not_set answer.Silent text values told none says = tt
 not_set other text values told none says = says

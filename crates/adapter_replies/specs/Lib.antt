@@ -10,6 +10,7 @@ pub mod Forms
 pub mod Frames
 pub mod Hints
 pub mod Locations
+pub mod Meanings
 pub mod Opened
 pub mod Pages
 pub mod References

@@ -45,7 +45,7 @@ use Rattle.adapter_replies.specs.declared.console.Asked.TheVariants as asked
 use Rattle.adapter_replies.specs.declared.places.Place.{Place}
 use Rattle.adapter_replies.specs.declared.places.Place.TheVariants as place
 use Rattle.adapter_replies.specs.declared.places.Scope.TheVariants.{Locals, Arguments}
-use Rattle.adapter_replies.specs.Shown.{shown_text}
+use Rattle.adapter_replies.specs.Meanings.{meaning_of, told_text, unset_text}
 use Rattle.adapter_replies.specs.Stopped.{goto_reason, reason_of}
 use Rattle.adapter_replies.specs.Targets.{set_by, target_in}
 use Rattle.adapter_replies.specs.Variables.{ToldVariable, told_each, told_now, values, variable_view, words_at}
@@ -169,7 +169,7 @@ IsExpressionTold s d deep asking told = IsAskedTold asking.asked s d deep asking
 abbrev pub IsPartTold : Setting → Debugger → (depth : ℕ) → Asking → Target → Variable → Option Refusal → Reply → Type 0
 IsPartTold s d deep asking target v None told =
     (told_value told ≡ Some (None, shown_in asking.context (values asking.form v.type (part_shown target.at (words_at s d deep v))))) × (told_place told ≡ opened s d deep target)
-IsPartTold s d deep asking target v (Some OutOfRange) told = told_stop told ≡ Some (None, codes "C8 OutOfRange")
+IsPartTold s d deep asking target v (Some OutOfRange) told = told_stop told ≡ Some (None, codes "C8 OutOfRange: " ++ meaning_of refusal.OutOfRange)
 IsPartTold s d deep asking target v (Some other) told = IsExpressionTold s d deep asking told
 
 -- the same by the variable that its name finds there; where it finds none the text is an expression
@@ -342,7 +342,7 @@ is_ended other = false
 
 abbrev pub IsStopTold : (is_ended : Bool) → Answer → Bytes → Reply → Type 0
 IsStopTold true given text told = told ≡ reply.Ended
-IsStopTold false given text told = told_stop told ≡ Some (reason_of given, shown_text text)
+IsStopTold false given text told = told_stop told ≡ Some (reason_of given, told_text given text)
 
 -- what a move is told, with the text of its answer
 abbrev pub IsMoveTold : Option Answer → Bytes → Reply → Type 0
@@ -352,16 +352,16 @@ IsMoveTold (Some given) text told = IsStopTold (is_ended given) given text told
 -- what a request to go to a line is told, with the text of its answer
 abbrev pub IsGotoTold : Option Answer → Bytes → Reply → Type 0
 IsGotoTold None text told = told ≡ reply.Done
-IsGotoTold (Some given) text told = told_stop told ≡ Some (goto_reason given, shown_text text)
+IsGotoTold (Some given) text told = told_stop told ≡ Some (goto_reason given, told_text given text)
 
--- what a request to set a variable is told: its values, or why it was not set; no command is done for one of no frame. What was set in another frame than
+-- what a request to set a variable is told: its values, or why it was not set, with what that means; no command is done for one of no frame. What was set in another frame than
 -- the top one is told by what stands there.
 abbrev pub IsSetTold : Option Answer → (text values : Bytes) → Reply → Type 0
 IsSetTold None text values told = told_stop told ≡ Some (None, codes "only a variable of a frame or of the file can be set")
 IsSetTold (Some answer.Silent) text values told = Unit {0}
 IsSetTold (Some (answer.Shows target shown)) text values (reply.Set value) = string_bytes value ≡ values
 IsSetTold (Some (answer.Shows target shown)) text values told = ⊥
-IsSetTold (Some given) text values told = told_stop told ≡ Some (None, shown_text text)
+IsSetTold (Some given) text values told = told_stop told ≡ Some (None, unset_text given text)
 
 -- this text of an answer, with the reason of its stop, or as a refusal
 abbrev pub IsTextTold : (is_refused : Bool) → Answer → (shown : Bytes) → Reply → Type 0
@@ -370,7 +370,7 @@ IsTextTold false given shown told = told_value told ≡ Some (reason_of given, s
 
 -- what a line of the console is told, with the text of its answer
 abbrev pub IsLineTold : Answer → (text : Bytes) → Reply → Type 0
-IsLineTold given text told = IsTextTold (is_refused given) given (shown_text text) told
+IsLineTold given text told = IsTextTold (is_refused given) given (told_text given text) told
 
 -- what the name of a variable is told: its values, or why there are none
 abbrev pub IsValueTold : Context → Answer → (text values : Bytes) → Reply → Type 0

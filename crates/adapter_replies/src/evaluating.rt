@@ -20,7 +20,7 @@ use crate::replies::{NO_FRAME, frame_or, refused};
 use crate::setting::{set_line, set_unsaid};
 use crate::stops::stop_of;
 use crate::targets::found;
-use crate::texts::{answer_text, top_text};
+use crate::texts::{answer_text, top_text, unset_text};
 use adapter_requests::{Context, Reply};
 use debug_answers::{Answer, NumberedStop, Refusal};
 use debug_commands::read_command;
@@ -81,7 +81,7 @@ pub(crate) fn set<M: FramedMachine>(
     };
     match values_of(alloc, machine, form_if(is_hexadecimal), answer)? {
         Some(values) => Ok(Reply::Set(values)),
-        None => Ok(Reply::Refused(answer_text(alloc, &answer, machine, stops)?)),
+        None => Ok(Reply::Refused(unset_text(alloc, &answer, machine, stops)?)),
     }
 }
 

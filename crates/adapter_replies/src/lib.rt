@@ -15,6 +15,7 @@ mod frames;
 mod hints;
 mod locals;
 mod locations;
+mod meanings;
 mod opened;
 mod pages;
 mod parts;

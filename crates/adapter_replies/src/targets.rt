@@ -29,7 +29,7 @@ use std::alloc::{AllocError, Global};
 const PRINT: &[u8] = b"print ";
 
 /// Why a lane or an element is not shown that a variable has not.
-const OUT_OF_RANGE: &str = "C8 OutOfRange";
+const OUT_OF_RANGE: &str = "C8 OutOfRange: an index is past the end, or a value outside its range";
 
 /// What a text means in the frame at a depth: what `print` names by it there, or an expression.
 pub(crate) fn found<M: ExpressionMachine>(

@@ -7,17 +7,23 @@ ghost use Rattle.gang_model.specs.Texts.Text.{text};
 ghost use Rattle.debug_traits.specs.Frames.{IsShownAt};
 ghost use Rattle.debug_traits.specs.Machines.{IsShown};
 ghost use Rattle.debug_answers.specs.Meanings.{AreStops, IsInside, Means};
+ghost use Rattle.adapter_replies.specs.Meanings.{is_bad_command, told_text, unset_text};
 ghost use Rattle.adapter_replies.specs.Shown.{shown_text, without_end};
 ghost use Rattle.adapter_replies.specs.Variables.{behind_blank, values, words_at};
 
 use crate::forms::{Form, digits_for};
+use crate::meanings::meaning_of;
 use crate::places::depth_of;
-use debug_answers::{Answer, NumberedStop};
+use debug_answers::{Answer, NumberedStop, Refusal};
 use debug_texts::write_answer;
 use debug_traits::{AnswerWriter, FramedMachine, RecordedMachine, Shown, WriteFault};
 use gang_types::IntType;
 use std::alloc::{AllocError, Global};
 use value_digits::{Digits, digits_text};
+
+/// Why a value is not set where its name or the value itself is none.
+const NO_VALUE: &str =
+    "C1 BadCommand: a variable, a lane or an element is set to a number, true or false";
 
 /// Takes what is written. It fails where there is no memory.
 #[derive(Drop)]
@@ -41,12 +47,53 @@ impl AnswerWriter for TextWriter {
     }
 }
 
-/// The text of an answer, without the end of its last line.
+/// The text of an answer, without the end of its last line; behind that of a refusal what it means.
 ///
 /// # Errors
 ///
 /// Out of memory.
 pub fn answer_text<M: RecordedMachine>(
+    alloc: Global,
+    answer: &Answer<'_>,
+    machine: &M,
+    stops: &[NumberedStop],
+) -> Result<String, AllocError>
+    ensures { (s : Setting) (at d : Debugger) (meant : model.Answer) → M.stands machine.now s at → at.events ≡ d.events
+        → AreStops s stops.now d.stops → Means s d answer.now meant → IfOk result (λ told. string_bytes told ≡ told_text answer.now (text s meant d)) }
+{
+    let mut told = bare_text(alloc, answer, machine, stops)?;
+    if let Answer::Refused(refusal) = answer {
+        told.push_str(": ")?;
+        told.push_str(meaning_of(*refusal))?;
+    }
+    Ok(told)
+}
+
+/// Why a value was not set, with what that means. Where the line spells no command, its name or its value is none.
+pub(crate) fn unset_text<M: RecordedMachine>(
+    alloc: Global,
+    answer: &Answer<'_>,
+    machine: &M,
+    stops: &[NumberedStop],
+) -> Result<String, AllocError>
+    ensures { (s : Setting) (at d : Debugger) (meant : model.Answer) → M.stands machine.now s at → at.events ≡ d.events
+        → AreStops s stops.now d.stops → Means s d answer.now meant → IfOk result (λ told. string_bytes told ≡ unset_text answer.now (text s meant d)) }
+{
+    if is_bad_command(answer) {
+        return String::from_str(alloc, NO_VALUE);
+    }
+    answer_text(alloc, answer, machine, stops)
+}
+
+/// Whether an answer says that a line spells no command.
+fn is_bad_command(answer: &Answer<'_>) -> bool
+    ensures { result ≡ is_bad_command answer.now }
+{
+    matches!(answer, Answer::Refused(Refusal::BadCommand))
+}
+
+/// The text of an answer, without the end of its last line.
+fn bare_text<M: RecordedMachine>(
     alloc: Global,
     answer: &Answer<'_>,
     machine: &M,

@@ -2,9 +2,11 @@
 ghost use Rattle.std.specs.Prelude.{◌≡◌, ◌++◌, IfOk, OnOk, map, option_map, string_bytes};
 ghost use Rattle.gang_model.specs.Debugger.Debugger as model;
 ghost use Rattle.gang_model.specs.Debugger.Debugger.{Debugger, Setting};
+ghost use Rattle.gang_model.specs.Texts.Text.{text};
 ghost use Rattle.debug_answers.specs.Meanings.{Means};
 ghost use Rattle.debug_session.specs.Sessions.{StandsFor};
 ghost use Rattle.log_points.specs.Points.{written_of};
+ghost use Rattle.adapter_replies.specs.Meanings.{told_text};
 ghost use Rattle.adapter_replies.specs.Stopped.{stop_view};
 ghost use Rattle.adapter_server.specs.Events as spec;
 ghost use Rattle.adapter_server.specs.Events.{event_view};
@@ -226,7 +228,7 @@ fn first_stop<M: RecordedMachine>(
     answer: &Answer<'_>,
 ) -> Result<Event, AllocError>
     ensures { (s : Setting) (d : Debugger) (meant : model.Answer) → StandsFor M.stands session.now s d → Means s d answer.now meant
-        → IfOk result (λ event. event_view event ≡ spec.first_stop (threads_of launch.now) s d reason meant) }
+        → IfOk result (λ event. event_view event ≡ spec.stop_event (threads_of launch.now) s d reason (told_text answer.now (text s meant d))) }
 {
     let text = answer_text(alloc, answer, session.machine(), session.stops())?;
     let thread = thread_of(launch, session, reason);

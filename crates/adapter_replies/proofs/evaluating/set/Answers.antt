@@ -17,15 +17,15 @@ returns-in-Some-2 g c s at d meant st same stops means =
     ∙ ap (λ form. shown_option given (shown_values (now s d) meant form)) c.form_if.ensures in
     subst (λ last. IsSetTold last all shown (reply.Set c.in-Some-2.values)) (sym c.in-Some.is) (set_to given all shown c.in-Some-2.values some)
 
-pub returns-in_ok-answer_text-in-None : goal.returns-in_ok-answer_text-in-None
-returns-in_ok-answer_text-in-None g c s at d meant st same stops means =
+pub returns-in_ok-unset_text-in-None : goal.returns-in_ok-unset_text-in-None
+returns-in_ok-unset_text-in-None g c s at d meant st same stops means =
     let given = c.in-Some.answer in
     let all = text s meant d in
     let shown = shown_values (now s d) meant (form_if c.args.is_hexadecimal) in
-    let told = reply.Refused c.in_ok-answer_text-in-None.field-0 in
+    let told = reply.Refused c.in_ok-unset_text-in-None.field-0 in
     let meaning = subst (λ last. MeansLast s d last meant) c.in-Some.is means in
     let none = ap (option_map string_bytes) (sym c.in-None.is)
     ∙ c.in_ok-values.ensures.values s at d meant st same meaning
     ∙ ap (λ form. shown_option given (shown_values (now s d) meant form)) c.form_if.ensures in
     subst (λ last. IsSetTold last all shown told) (sym c.in-Some.is)
-    (not_set given all shown told none (ap (λ words. Some (None, words)) (c.in_ok-answer_text-in-None.ensures s at d meant st same stops meaning)))
+    (not_set given all shown told none (ap (λ words. Some (None, words)) (c.in_ok-unset_text-in-None.ensures s at d meant st same stops meaning)))

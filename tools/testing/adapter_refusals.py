@@ -1,0 +1,12 @@
+"""Why a command of an editor is refused: the number and the name of the refusal, and what it means."""
+
+BAD_VALUE = "C1 BadCommand: a variable, a lane or an element is set to a number, true or false"
+NO_SUCH_NAME = "C2 NoSuchName: there is no such variable, lane or element here, or it cannot be set or watched"
+NO_HISTORY = "C3 NoHistory: nothing is kept that could be taken back"
+ENDED = "C4 Ended: the program has ended; a step back goes back into it, and a restart begins it anew"
+OUTERMOST = "C6 Outermost: this is the outermost frame, which no other called"
+NO_LINE = "C7 NoLine: no line from there on has a step"
+OUT_OF_RANGE = "C8 OutOfRange: an index is past the end, or a value outside its range"
+CONSTANT = "C9 Constant: constants and the indices of foreach are not set"
+NO_SUCH_NUMBER = "C10 NoSuchNumber: no breakpoint or watch has this number"
+TABLE_FULL = "C11 TableFull: 64 breakpoints and watches are there; one that is removed makes room"
