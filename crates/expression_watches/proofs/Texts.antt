@@ -137,5 +137,5 @@ module _ (p : Program) (spot : Spot) (text : List ℕ) (tokens : List Lexeme) (a
   none_at (refusal.NoExpression r) other (others, their, none) =
       let here = subst (λ ts. HasNoExpression ts r) (same_tokens text others tokens their.spelled has.spelled) none in
       ap (tree_in (entries_at p spot)) (none_written tokens here.none)
-  none_at (refusal.NoValue r) other (others, written, reads, none) = no_tree p spot tokens written none.0 (spelled_by others written reads.tokens_are reads.spelled) none.1.0
+  none_at (refusal.NoValue r) other (others, written, reads, none) = no_tree p spot tokens written none.0 (spelled_by others written reads.tokens_are reads.spelled) none.1
   none_at (refusal.CallsFunction place) other (others, written, reads, none) = no_tree p spot tokens written _ (spelled_by others written reads.tokens_are reads.spelled) none.0
