@@ -2,6 +2,7 @@
 
 import random
 
+from meaning.adapter import refusal_text
 from meaning.debugging import Refused
 from meaning.printed import text_of
 from meaning.prompt import Prompt
@@ -43,7 +44,7 @@ class Walk:
         try:
             said = self.prompt.answer((FORWARD | BACK)[name])[0]
         except Refused as refused:
-            self.client.refused_move(name, str(refused))
+            self.client.refused_move(name, refusal_text(refused))
         else:
             same(self.client.move(name)["text"], said)
 
