@@ -1,4 +1,4 @@
-"""proved.txt: a line for each crate of which all steps have passed, with what it was then, how it was judged and with which toolchain.
+"""proved.txt: a line for each crate of which all steps have passed, with what it was then, how it was judged and by which prover and libraries.
 
 A landing takes a crate whose line says what it would say now as judged, without the store. Some of them it judges all the same, from nothing:
 which ones follows from the digest of the commit.
@@ -9,35 +9,51 @@ import hashlib
 import os
 import subprocess
 
-from reading import sum_of_read
+from reading import has_code, sum_of_read
 from store import RUN, sum_of
 from toolchain import rt, rtlib
 
 FILE = "proved.txt"
 HEAD = "# What was judged, by the digests of all that was read: written by `make prove`, and not by hand (docs/CONTRIBUTING.md)\n"
-# An earlier judge of edits, by its digest, and the one that lets the very same edits pass: a line by the first counts as one by the second.
-# (The first one checked an edit once more that was refused already, with those that were not.)
-SAME_VERDICTS = {"19791043": "77493d8c"}
+# Earlier judges, by their digests, and those that let the very same pass: what the first judged counts as judged by the second. (One of edits
+# checked an edit once more that was refused already, with those that were not; one of proofs gave each check one job.)
+SAME_VERDICTS = {"19791043": "77493d8c", "6bf36d72": "e5c29e85"}
+# What of the toolchain proofs rest on beside its libraries, and what the runs of programs and tests rest on besides.
+PROVER = ("bin/rattle",)
+COMPILERS = ("bin/rattle-link", "toolchain/bin/clang", "toolchain/bin/rattle-x64", "toolchain/lib")
 # How many crates a landing judges all the same, the most processor seconds that these take, and about what takes how many.
 DRAWN, MOST = 3, 1_200
 OF_CRATE, OF_LINE, OF_EDIT, OF_LINE_OF_TESTS = 45, 0.12, 15, 0.4
 
 
-def identity():
-    """Returns the line by which the toolchain names itself."""
-    return rtlib.text_of(f"{rt.KIT}/KIT-ID").strip()
+@functools.cache
+def sum_of_prover():
+    """Returns a digest of what a proof rests on of the toolchain: the sum of its logic, its prover, and its libraries, by the sums that it lists of them.
+
+    Its name is not in it: two kits with one prover and the same libraries prove the same.
+    """
+    logic = rtlib.text_of(f"{rt.KIT}/KIT-ID").partition("logic ")[2].strip()
+    lists = (rtlib.text_of(f"{rt.KIT}/{it}") for it in os.listdir(rt.KIT) if it.startswith("WHAT"))
+    libraries = sorted({line for it in lists for line in it.splitlines() if " rlibs/" in line})
+    return sum_of((logic, libraries), rt.KIT, PROVER)
+
+
+@functools.cache
+def sum_of_compilers():
+    """Returns a digest of what makes programs of proved code, and tests."""
+    return sum_of((), rt.KIT, COMPILERS)
 
 
 def toolchain():
-    """Returns the toolchain's name, by which its lines are told from those of others."""
-    return identity().split()[0]
+    """Returns the name by which the lines of one prover with its libraries are told from those of others."""
+    return sum_of_prover()[:8]
 
 
 def digests_of(crates):
     """Returns a digest of all that each crate's proof and tests rest on, which is the same on every machine.
 
     It is of what a check of the crate reads of the repository's files, its whole line of crates.txt and those of the crates below it, HANDLES, and
-    the line by which the toolchain names itself.
+    of the toolchain the prover and the libraries; the compilers too where code of the crate is run.
     """
     kinds = {it.name: repr((it.name, it.said, it.is_program, it.of_kit)) for it in crates}
     below = {}
@@ -46,7 +62,8 @@ def digests_of(crates):
 
     def digest(crate):
         lower = below[crate.name]
-        read = (identity(), rt.Crate.allowed, kinds[crate.name], sorted(kinds[it] for it in lower), sum_of_read(crate, lower.values()))
+        judges = (sum_of_prover(), *[sum_of_compilers()] * has_code(crate))
+        read = (judges, rt.Crate.allowed, kinds[crate.name], sorted(kinds[it] for it in lower), sum_of_read(crate, lower.values()))
         return hashlib.sha256(repr(read).encode()).hexdigest()
 
     return {it.name: digest(it) for it in crates}
@@ -67,6 +84,16 @@ def lines(root):
 def told(root):
     """Returns the lines of the file by what each would say with the judges of today."""
     return {" ".join(SAME_VERDICTS.get(word, word) for word in it.split(" ")): it for it in lines(root)}
+
+
+def is_noted(record, step):
+    """Whether a record of the store has a step, by the judge of today or by an earlier one whose verdicts count."""
+
+    def as_today(noted):
+        kind, _, judge, *more = noted.split(" ")
+        return kind, SAME_VERDICTS.get(judge[:8], judge[:8]), more
+
+    return as_today(step) in map(as_today, record)
 
 
 def named_in(line):

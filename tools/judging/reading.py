@@ -99,10 +99,15 @@ def sum_of_text(path, text):
     return hashlib.sha256(repr((named, text, lists_above(path) if path.endswith(".antt") else [])).encode()).hexdigest()
 
 
+def has_code(crate):
+    """Whether code of a crate is run: it is a program, or has tests."""
+    return crate.is_program or crate.has_tests()
+
+
 def sum_of_read(crate, below):
     """Returns a digest of what a check of a crate reads of the repository's files, where these crates are below it."""
     texts = {it: text_of(it) for part in ("src", "specs", "proofs") for it in files_in(f"{crate.folder}/{part}")}
-    has_code = crate.is_program or crate.has_tests()
-    sources = {it: text_of(it) if has_code else interface(it) for lower in below for it in files_in(f"{lower.folder}/src")}
+    is_run = has_code(crate)
+    sources = {it: text_of(it) if is_run else interface(it) for lower in below for it in files_in(f"{lower.folder}/src")}
     read = reached(texts | {it: text for it, text in sources.items() if text})
     return hashlib.sha256(repr(sorted(sum_of_text(*it) for it in read.items())).encode()).hexdigest()

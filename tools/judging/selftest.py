@@ -99,7 +99,7 @@ def faults():
         crate = trial_at(root)
         crate.out = out
         why = steps.why_refused(crate, [crate])
-        if why or not steps.library(crate):
+        if why or not steps.library(crate, 1):
             out.seek(0)
             return [f"the crate is not proved: {why or out.read()[-3000:]}"]
         found = []

@@ -7,7 +7,7 @@ import shutil
 from toolchain import rt, rtlib
 
 KEPT = "incremental"
-# (each further job of a check loads anew what lies below; the processors are for the checks of other crates)
+# (each further job of a check loads anew what lies below; the processors are for the checks of other crates, where there are any)
 JOBS = ["--jobs", "1"]
 BUILT = ["--toolchain", f"{rt.KIT}/toolchain"]
 OVER = ["--incremental", f"out/{KEPT}"]
@@ -35,25 +35,30 @@ def why_refused(crate, crates):
     return "run rt fmt in the crate's folder" if rtlib.fmt(crate.folder, "--check", crate.out) else None
 
 
-def library(crate):
-    """Whether a library is proved over its kept work. It is built, for the crates above it."""
+def words_of(crate, jobs=1, **more):
+    """Returns the words of a check of a crate by so many jobs, which changes no verdict."""
+    return crate.words([JOBS[0], str(jobs)], keeps=False, **more)
+
+
+def library(crate, jobs):
+    """Whether a library is proved over its kept work, by so many jobs. It is built, for the crates above it."""
     folder = os.path.dirname(crate.rlib)
     shutil.rmtree(folder, ignore_errors=True)
     os.makedirs(folder)
-    return not crate.prove(["build", *crate.words(JOBS, keeps=False), *OVER, "-o", crate.rlib])
+    return not crate.prove(["build", *words_of(crate, jobs), *OVER, "-o", crate.rlib])
 
 
-def program(crate):
-    """Whether a program is proved over its kept work. LLVM builds it."""
+def program(crate, jobs):
+    """Whether a program is proved over its kept work, by so many jobs. LLVM builds it."""
     to = f"out/{crate.name}"
-    words = [*crate.words(JOBS, keeps=False), *OVER, *BUILT]
+    words = [*words_of(crate, jobs), *OVER, *BUILT]
     return not (crate.prove(["build", *words, "--backend", "llvm", "-o", f"{to}.o"]) or crate.link(f"{to}.o", to))
 
 
 def tests(crate):
     """Whether the crate's tests are proved over its kept work, and pass."""
     to = f"out/{crate.name}_tests"
-    words = [*crate.words(JOBS, tests=True, keeps=False), *OVER, *BUILT]
+    words = [*words_of(crate, tests=True), *OVER, *BUILT]
     if crate.prove(["build", *words, "--backend", "llvm", "-o", f"{to}.o"]) or crate.link(f"{to}.o", to):
         return False
     return rt.run(crate, True)
@@ -68,6 +73,6 @@ def run(crate):
     if not os.path.isfile(to):
         print("what LLVM built of it is gone", file=crate.out)
         return False
-    if crate.compile_by("rattle", [*crate.words(JOBS, keeps=False), *OVER, *BUILT], f"out/{crate.name}"):
+    if crate.compile_by("rattle", [*words_of(crate), *OVER, *BUILT], f"out/{crate.name}"):
         return False
     return all([rt.run(crate, False, it) for it in rt.BACKENDS.values() if os.path.isfile(to + it)])
