@@ -7,11 +7,9 @@ expressions, also in hexadecimal digits; it sets values in each frame.
 `python3 -m testing.adapter_meant [--seed N] [--many N] COMMAND..` (in tools/) draws more of them, or the one of a number.
 """
 
-import argparse
 import functools
 import pathlib
 import random
-import sys
 import tempfile
 import threading
 
@@ -19,6 +17,7 @@ from meaning.adapter import GONE, LINES, WAITS, Adapter, refusal_text
 from meaning.debugging import Refused
 from meaning.values import Fault
 
+from . import seeded
 from .adapter_members import Wrong, same
 from .calls import side_by_side
 from .random_prompts import STEPS, WIDTHS, Expressions, Source
@@ -297,18 +296,5 @@ def results(command, numbers=range(MANY)):
     return side_by_side(lambda number: tried(number, command), numbers)
 
 
-def main():
-    options = argparse.ArgumentParser()
-    options.add_argument("--seed", type=int)
-    options.add_argument("--many", type=int, default=MANY)
-    options.add_argument("command", nargs=argparse.REMAINDER)
-    given = options.parse_args()
-    found = results(given.command, range(given.many) if given.seed is None else [given.seed])
-    for result in (it for it in found if not it.passed):
-        print(result.name, *result.why, sep="\n    ")
-    print(f"{sum(it.passed for it in found)} of {len(found)} passed")
-    sys.exit(not all(it.passed for it in found))
-
-
 if __name__ == "__main__":
-    main()
+    seeded.main(MANY, results)

@@ -3,19 +3,17 @@
 `python3 -m testing.adapter_sessions [--seed N] [--many N] COMMAND..` (in tools/) draws more of them, or the one of a number.
 """
 
-import argparse
 import json
 import pathlib
 import random
 import subprocess
-import sys
 import tempfile
 import threading
 
 from .adapter_frames import RECURSION
 from .adapter_values import ARRAYS, EVEN, GIVEN, TABLE, row
 from .calls import side_by_side
-from . import turned_messages
+from . import seeded, turned_messages
 from .protocol import judged
 from .protocol_types import RESPONSES
 from .tried import Result
@@ -308,19 +306,5 @@ def every_message(logs):
     return Result("adapter sessions: every message", not why, why)
 
 
-def main():
-    options = argparse.ArgumentParser()
-    options.add_argument("--seed", type=int)
-    options.add_argument("--many", type=int, default=MANY)
-    options.add_argument("command", nargs=argparse.REMAINDER)
-    given = options.parse_args()
-    seeds = range(given.many) if given.seed is None else [given.seed]
-    found = results(pathlib.Path(__file__).resolve().parents[2], given.command, seeds)
-    for result in (it for it in found if not it.passed):
-        print(result.name, *result.why, sep="\n    ")
-    print(f"{sum(it.passed for it in found)} of {len(found)} passed")
-    sys.exit(not all(it.passed for it in found))
-
-
 if __name__ == "__main__":
-    main()
+    seeded.main(MANY, lambda command, seeds: results(pathlib.Path(__file__).resolve().parents[2], command, seeds))

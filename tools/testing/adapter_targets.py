@@ -1,5 +1,6 @@
 """Checks of the debug adapter: what a name, a lane or an element shows in each frame, what of it opens, and help and parameters in the console."""
 
+from . import adapter_values
 from .adapter_frames import NO_REFERENCE, RECURSION, at_depth_3, row, written
 from .adapter_members import WAITS, need, same
 from .adapter_refusals import OUT_OF_RANGE
@@ -13,15 +14,7 @@ NO_INDEX = "S8 Type"
 
 def at_widths(check):
     """A check at widths 4, 8 and 16."""
-
-    def named(width):
-        def at_width(client, examples):
-            check(client, width)
-
-        at_width.__name__ = f"{check.__name__}_at_width_{width}"
-        return at_width
-
-    return [named(width) for width in WIDTHS]
+    return adapter_values.at_widths(check, WIDTHS)
 
 
 def asked(text, depth, context):

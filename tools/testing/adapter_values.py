@@ -33,8 +33,8 @@ def truths(values):
     return row("true" if it else "false" for it in values)
 
 
-def at_widths(check):
-    """A check at widths 8 and 16."""
+def at_widths(check, widths=WIDTHS):
+    """A check at each of these widths."""
 
     def named(width):
         def at_width(client, examples):
@@ -43,7 +43,7 @@ def at_widths(check):
         at_width.__name__ = f"{check.__name__}_at_width_{width}"
         return at_width
 
-    return [named(width) for width in WIDTHS]
+    return [named(width) for width in widths]
 
 
 # ---- expressions

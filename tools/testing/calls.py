@@ -61,3 +61,14 @@ def stop_all():
     with LOCK:
         for process in RUNNING:
             process.send_signal(signal.SIGTERM)
+
+
+def all_of(terminal):
+    """What a terminal shows until nothing writes to it any more."""
+    text = b""
+    try:
+        while piece := os.read(terminal, 65536):
+            text += piece
+    except OSError:
+        pass  # Linux tells the end of a terminal so.
+    return text

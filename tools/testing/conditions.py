@@ -10,6 +10,7 @@ import subprocess
 import tempfile
 import tty
 
+from .calls import all_of
 from .tried import Result, Run, shown
 
 WIDTHS = (4, 8, 16)
@@ -336,18 +337,13 @@ def results(program):
     """A long `continue` with a condition on a terminal: behind each 10,000 stops that are passed it shows how many moves it has made."""
     ours, theirs = os.openpty()
     tty.setraw(theirs)
-    text = b""
     with tempfile.TemporaryDirectory(prefix="passed-") as folder:
         pathlib.Path(folder, NAME).write_bytes(LONG)
         with subprocess.Popen([program, "debug", NAME], cwd=folder, env={}, stdin=subprocess.PIPE, stdout=theirs) as process:
             os.close(theirs)
             process.stdin.write(b"break 6 if x < 0\ncontinue\n")
             process.stdin.close()
-            try:
-                while piece := os.read(ours, 65536):
-                    text += piece
-            except OSError:
-                pass  # Linux tells the end of a terminal so.
+            text = all_of(ours)
     os.close(ours)
     # The last of so many stops stands at step 3 of the first round and ten more for each round behind it.
     progress = "".join(f"\r{3 + 10 * (number * PIECE - 1):,} moves" for number in range(1, PIECES + 1))

@@ -2,6 +2,7 @@
 
 import re
 
+from .tables import rows
 from .tool import tool
 from .tried import Result
 
@@ -9,22 +10,6 @@ PAGE = "docs/FINDING.md"
 COLUMNS = ["Rule", "Definition", "Crate", "Code", "Law", "Wrong body"]
 MEANING = ("gang_types", "gang_model")
 NAME = re.compile(r"`([^`]+)`(?: of `(\w+)`)?")
-
-
-def cells(line):
-    return [it.strip() for it in re.split(r"(?<!\\)\|", line)[1:-1]]
-
-
-def rows(root):
-    """The rows of the tables of rules, each with its line and its cells by the names of their columns."""
-    columns = None
-    for number, line in enumerate((root / PAGE).read_text(encoding="utf-8").splitlines(), 1):
-        if not line.startswith("|"):
-            columns = None
-        elif columns is None:
-            columns = cells(line)
-        elif columns == COLUMNS and not re.fullmatch(r"[|\s-]+", line):
-            yield number, dict(zip(columns, cells(line)))
 
 
 class Names:
@@ -73,6 +58,6 @@ def check(root):
     """One result: all names of the page are there."""
     if not (root / PAGE).is_file():
         return [Result(f"{PAGE}: its names", False, ["it is not there"])]
-    names, found = Names(root), list(rows(root))
+    names, found = Names(root), list(rows(root / PAGE, COLUMNS))
     why = [f"line {number}: {it}" for number, row in found for it in missing(row, names)]
     return [Result(f"{PAGE}: its names", found and not why, why or ["it has no table of rules"])]

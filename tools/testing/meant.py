@@ -32,6 +32,12 @@ def rows_of(text):
     return rows
 
 
+def options_of(words, given):
+    """The options of the meaning of a run with these words and this input, if there is one."""
+    rows = {"rows": rows_of(given.decode())} if given else {}
+    return rows | ({"entry": words[words.index("--entry") + 1]} if "--entry" in words else {})
+
+
 def value_of(text):
     return int(text == "true") if text in ("true", "false") else int(text, 16 if "x" in text else 10)
 

@@ -267,8 +267,7 @@ def example_runs(root):
         words = examples.arguments(root, name)
         given = examples.input_of(root, name)
         input_words, data = examples.with_input(name, given)
-        options = {"rows": meant.rows_of(given.decode())} if given else {}
-        options |= {"entry": words[words.index("--entry") + 1]} if "--entry" in words else {}
+        options = meant.options_of(words, given)
         source = (root / f"examples/{name}.ispc").read_text()
         found += runs_of(name, source, [*words, *input_words], options, data, widths=WIDTHS if not given else (4,))
     return found

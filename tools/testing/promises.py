@@ -5,6 +5,7 @@ A promise that no clause keeps says so: it is tested only, and names a test, or 
 
 import re
 
+from .tables import rows
 from .tool import tool
 from .tried import Result
 
@@ -14,22 +15,6 @@ KEPT = re.compile(r"`(\w+)::(\w+)`(?: \(((?:`\w+`(?:, )?)+)\))?")
 EDIT = re.compile(r"`(\w+/must-fail/\w+\.edit)`")
 TEST = re.compile(r"`(\w+)` of `(tests_\w+)`|`([^`]+)` of `(sessions/\w+\.session)`|`(tools/(?:testing/\w+\.py|test_editors))`")
 TESTED, NEITHER = "tested only", "neither"
-
-
-def cells(line):
-    return [it.strip() for it in re.split(r"(?<!\\)\|", line)[1:-1]]
-
-
-def rows(root):
-    """The rows of the tables of promises, each with its line and its cells by the names of their columns."""
-    columns = None
-    for number, line in enumerate((root / PAGE).read_text(encoding="utf-8").splitlines(), 1):
-        if not line.startswith("|"):
-            columns = None
-        elif columns is None:
-            columns = cells(line)
-        elif columns == COLUMNS and not re.fullmatch(r"[|\s-]+", line):
-            yield number, dict(zip(columns, cells(line)))
 
 
 class Clauses:
@@ -101,6 +86,6 @@ def check(root):
     """One result: all that the page names is there."""
     if not (root / PAGE).is_file():
         return [Result(f"{PAGE}: its names", False, ["it is not there"])]
-    clauses, found = Clauses(root), list(rows(root))
+    clauses, found = Clauses(root), list(rows(root / PAGE, COLUMNS))
     why = [f"line {number}: {it}" for number, row in found for it in missing(root, row, clauses)]
     return [Result(f"{PAGE}: its names", found and not why, why or ["it has no table of promises"])]

@@ -18,6 +18,7 @@ import tempfile
 import tty
 
 from . import asked_in_frames, asking, deep_frames, digits, listing, lists_behind_moves, numbering, parted_frames, past_the_end, printing, returning, told_reasons
+from .calls import all_of
 from .tried import Result, Run, differences, shown
 
 CRATE = "rinddecade"
@@ -196,7 +197,6 @@ def results(program):
     """A long `continue` on a terminal: it shows how many moves it has made, and takes that off the line before the answer."""
     ours, theirs = os.openpty()
     tty.setraw(theirs)
-    text = b""
     with tempfile.TemporaryDirectory(prefix="long-") as folder:
         pathlib.Path(folder, "long.ispc").write_bytes(LONG)
         words = [program, "debug", "long.ispc", "--steps", "100500"]
@@ -204,11 +204,7 @@ def results(program):
             os.close(theirs)
             process.stdin.write(TYPED_LINES)
             process.stdin.close()
-            try:
-                while piece := os.read(ours, 65536):
-                    text += piece
-            except OSError:
-                pass  # Linux tells the end of a terminal so.
+            text = all_of(ours)
     os.close(ours)
     why = [f"status {process.returncode}"] if process.returncode else []
     why += differences("the terminal", text, SHOWN % (PROGRESS, CLEARED, CLEARED))

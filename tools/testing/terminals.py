@@ -11,6 +11,7 @@ import termios
 import tty
 
 from . import prompts
+from .calls import all_of
 from .program import begins_with
 from .tried import Result, Run, differences
 
@@ -163,7 +164,6 @@ def typed(built, source, lines, environment, is_both=False, is_raw=False):
         tty.setraw(theirs)
     else:
         set_quiet(theirs)
-    text = b""
     with tempfile.TemporaryDirectory(prefix="terminal-") as folder:
         pathlib.Path(folder, "go.ispc").write_bytes(source)
         how = {"cwd": folder, "env": environment, "stdout": theirs, "stdin": theirs if is_both else subprocess.PIPE}
@@ -174,11 +174,7 @@ def typed(built, source, lines, environment, is_both=False, is_raw=False):
             else:
                 process.stdin.write(lines)
                 process.stdin.close()
-            try:
-                while piece := os.read(ours, 65536):
-                    text += piece
-            except OSError:
-                pass  # Linux tells the end of a terminal so.
+            text = all_of(ours)
     os.close(ours)
     return text
 
