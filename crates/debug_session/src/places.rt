@@ -15,6 +15,7 @@ pub(crate) struct Reached {
 }
 
 /// Where a machine stands now.
+#[inline(always)]
 pub(crate) fn reached_by<M: RecordedMachine>(machine: &M) -> Reached
     ensures { (s : Setting) (d : Debugger) → M.stands machine.now s (bare d) → IsReached s d result }
 {

@@ -105,6 +105,7 @@ pub(crate) fn changed_watch<M: RecordedMachine>(
 }
 
 /// The same after a move, which may have changed what a watch shows or not.
+#[inline(always)]
 pub(crate) fn watch_after_move<M: RecordedMachine>(
     machine: &M,
     stops: &StopTable,

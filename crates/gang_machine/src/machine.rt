@@ -106,6 +106,7 @@ impl<const W: usize, T: Timeline + Drop> RecordedMachine for Machine<W, T> {
         limited(&mut self.words, limit)
     }
 
+    #[inline(always)]
     fn position(&self) -> Option<Position<'_>> {
         position::<W, T>(&self.compiled, &self.words)
     }

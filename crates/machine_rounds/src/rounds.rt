@@ -53,6 +53,7 @@ pub fn take_round<const W: usize, T: Timeline + Drop>(
 }
 
 /// The next round of the form whose rounds the next step is.
+#[inline(always)]
 pub fn next_round<const W: usize, T: Timeline + Drop>(
     compiled: &CompiledProgram,
     active: Active,

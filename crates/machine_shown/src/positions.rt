@@ -20,6 +20,7 @@ use undo_log::Timeline;
 
 /// Where the program stands, unless it has ended. At the rounds of a foreach form the lanes are those of the round that begins, at a closing
 /// brace those of the call.
+#[inline(always)]
 pub fn position<'a, const W: usize, T: Timeline + Drop>(
     compiled: &'a CompiledProgram,
     words: &MachineWords<T>,
@@ -62,6 +63,7 @@ pub fn call<'a, const W: usize, T: Timeline + Drop>(
 
 /// The lanes that are shown at the next step: those of the round that begins, those of the call at the closing brace, and else those that do
 /// it.
+#[inline(always)]
 fn shown_lanes<const W: usize, T: Timeline + Drop>(
     compiled: &CompiledProgram,
     words: &MachineWords<T>,
@@ -91,6 +93,7 @@ fn call_lanes<const W: usize, T: Timeline + Drop>(words: &MachineWords<T>, frame
 }
 
 /// A step of a function as a position.
+#[inline(always)]
 fn stands_at<const W: usize>(
     compiled: &CompiledProgram,
     function: usize,

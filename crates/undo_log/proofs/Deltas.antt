@@ -68,14 +68,6 @@ pub kept_between : (first end : ℕ) (m : Mark) (ms : List Mark) (cs : List Chan
 kept_between first end m [] cs ws e h = cc
 kept_between first end m (x ∷ ms) cs ws e h = let same : x ≡ m = cc in rw same (taken_back_other first end (take m.count cs) ws h)
 
--- one more change is taken back
-pub taken_back_more : (c : Change) (n k : ℕ) (cs : List Change) (ws : List ℕ) → Some c ≡ slice_get cs 0 → k < n → taken_back (take (n - (k + 1)) (drop 1 cs)) (set ws c.index c.old) ≡ taken_back (take (n - k) cs) ws
-taken_back_more c n k [] ws e h = cc
-taken_back_more c n k (x ∷ cs) ws e h =
-    let same : x ≡ c = cc in
-    let next : n - k ≡ suc (n - (k + 1)) = omega arith in
-    rw (same, next)
-
 -- the newest event is taken back
 pub moments_back : (m : Mark) (ms : List Mark) (cs : List Change) (ws : List ℕ) → Some m ≡ slice_get ms 0 → moments ms cs ws ≡ moment m.event (taken_back (take m.count cs) ws) ∷ moments (drop 1 ms) (drop m.count cs) (taken_back (take m.count cs) ws)
 moments_back m [] cs ws e = cc

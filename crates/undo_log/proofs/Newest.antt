@@ -1,10 +1,10 @@
 -- A list whose newest item comes last, from the newest on.
-use Rattle.std.proofs.Common.{◌≡◌, refl, sym, ap, ◌∙◌, ℕ, zero, suc, ◌-◌, ◌<◌, ◌≤◌, List, [], ◌∷◌, ◌++◌, length, take, drop, slice_get, Some, arith, Bool, true, false, ◌||◌}
+use Rattle.std.proofs.Common.{◌≡◌, refl, sym, ap, ◌∙◌, ℕ, zero, suc, ◌-◌, ◌<◌, ◌≤◌, List, [], ◌∷◌, ◌++◌, length, take, drop, arith, Bool, true, false, ◌||◌}
 use Rattle.std.specs.Prelude.{reverse}
 use Rattle.std.proofs.lemmas.List.{reverse-append, length-reverse, take-append-drop, take-append-le, length-drop, take_all}
 use Rattle.std.specs.List.{list_any}
 use Rattle.std.proofs.lemmas.List.Folds.{list_any-append}
-use Rattle.circular_buffer.specs.Buffer.{keep_last, last_item}
+use Rattle.circular_buffer.specs.Buffer.{keep_last}
 
 pub one_newer : {X : Type 0} (xs : List X) (x : X) → reverse (xs ++ x ∷ []) ≡ x ∷ reverse xs
 one_newer xs x = reverse-append xs (x ∷ [])
@@ -31,28 +31,6 @@ pub newest_gone : {X : Type 0} (n : ℕ) (xs : List X) → n ≤ length xs → r
 newest_gone n xs h =
     sym (ap (drop n) (split_newest (length xs - n) xs)
     ∙ drop_front n (reverse (drop (length xs - n) xs)) (reverse (take (length xs - n) xs)) (length_newest n (length xs - n) xs h refl))
-
-drop_at : {X : Type 0} (x : X) (n : ℕ) (xs : List X) → Some x ≡ slice_get xs n → Some x ≡ slice_get (drop n xs) 0
-drop_at x n [] e = cc
-drop_at x zero (y ∷ xs) e = e
-drop_at x (suc n) (y ∷ xs) e = drop_at x n xs e
-
-alone : {X : Type 0} (x : X) (xs ys : List X) → length xs ≡ 1 → Some x ≡ slice_get xs 0 → Some x ≡ slice_get (reverse xs ++ ys) 0
-alone x [] ys long e = absurd (omega (arith, long))
-alone x (y ∷ []) ys long e = e
-alone x (y ∷ z ∷ xs) ys long e = absurd (omega (arith, long))
-
-pub some_last : {X : Type 0} (x : X) (xs : List X) → Some x ≡ last_item xs → 0 < length xs
-some_last x [] e = cc
-some_last x (y ∷ xs) e = omega arith
-
--- the last item is the newest
-pub last_is : {X : Type 0} (x : X) (xs : List X) → Some x ≡ last_item xs → Some x ≡ slice_get (reverse xs) 0
-last_is x xs e =
-    let n = length xs - 1 in
-    let there : 0 < length xs = some_last x xs e in
-    alone x (drop (length xs - 1) xs) (reverse (take (length xs - 1) xs)) (length-drop (length xs - 1) xs ∙ omega (arith, there)) (drop_at x (length xs - 1) xs e)
-    ∙ ap (λ ys. slice_get ys 0) (sym (split_newest (length xs - 1) xs))
 
 swapped : (a b : Bool) → (a || (b || false)) ≡ (b || a)
 swapped true true = refl

@@ -25,6 +25,7 @@ impl Change {
 }
 
 /// Whether one of the last `count` changes is of a word of an index from `first` on and before `end`.
+#[inline(always)]
 pub(crate) fn is_any_between(
     changes: &HeapCircularBuffer<Change>,
     count: usize,
@@ -33,11 +34,19 @@ pub(crate) fn is_any_between(
 ) -> bool
     ensures { result ≡ list_any (λ c. nat_le first c.index && nat_lt c.index end) (keep_last count changes.now.items) }
 {
-    let len = changes.len();
-    for number in len.saturating_sub(count)..len {
-        let Some(change) = changes.get(number) else {
-            return false;
-        };
+    let oldest = changes.len().saturating_sub(count);
+    let (front, back) = changes.as_slices();
+    let in_front = oldest.min(front.len());
+    let in_back = back.len().saturating_sub(count);
+    is_one_between(&back[in_back..], first, end) || is_one_between(&front[in_front..], first, end)
+}
+
+/// Whether one of these changes is of a word of an index from `first` on and before `end`.
+#[inline(always)]
+fn is_one_between(changes: &[Change], first: usize, end: usize) -> bool
+    ensures { result ≡ list_any (λ c. nat_le first c.index && nat_lt c.index end) changes.now }
+{
+    for change in changes {
         if change.is_between(first, end) {
             return true;
         }
@@ -46,6 +55,7 @@ pub(crate) fn is_any_between(
 }
 
 /// Takes `count` changes back, the newest first, and answers how many words it wrote.
+#[inline(always)]
 pub(crate) fn write_back(
     words: &mut [u64],
     changes: &mut HeapCircularBuffer<Change>,
@@ -57,15 +67,28 @@ pub(crate) fn write_back(
     ensures changes { changes.new ≡ buffer (take (length changes.old.items - count) changes.old.items) changes.old.capacity }
     ensures written { result ≡ count }
 {
-    let mut written = 0;
-    while written < count {
-        let Some(change) = changes.pop_back() else {
-            return written;
-        };
+    let oldest = changes.len() - count;
+    let (front, back) = changes.as_slices();
+    let in_front = oldest.min(front.len());
+    let in_back = back.len().saturating_sub(count);
+    write_each(words, &back[in_back..]);
+    write_each(words, &front[in_front..]);
+    changes.truncate_back(oldest);
+    count
+}
+
+/// Takes these changes back, of which the newest comes last, the newest first.
+#[inline(always)]
+fn write_each(words: &mut [u64], changes: &[Change])
+    requires in_range { All (λ c. c.index < length words.old) changes.now }
+    ensures { words.new ≡ taken_back (reverse changes.now) words.old }
+{
+    let mut left = changes.len();
+    while left > 0 {
+        left -= 1;
+        let change = changes[left];
         words[change.index] = change.old;
-        written += 1;
     }
-    written
 }
 
 /// Sets the words from `first` on to these `W`, and answers what they were before.

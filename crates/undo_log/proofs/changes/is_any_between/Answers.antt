@@ -1,40 +1,46 @@
-use Rattle.std.proofs.Common.{◌≡◌, ◌∙◌, ◌+◌, ◌-◌, ◌<◌, false, ◌||◌, Some, ap, ap₂, arith, get_or, length, slice_get, sym, ℕ, List}
-use Rattle.std.specs.Prelude.{drop, take}
+use Rattle.std.proofs.Common.{◌≡◌, ◌∙◌, ◌-◌, ◌++◌, ◌||◌, Bool, ap, arith, drop, false, length, refl, sym, take, true}
 use Rattle.std.specs.List.{list_any}
-use Rattle.std.proofs.lemmas.List.{length-drop}
-use Rattle.std.proofs.lemmas.List.Folds.{list_any_at, list_any_more}
-use Rattle.std.proofs.lemmas.Option.{get_or_from_slice_get}
-use Rattle.circular_buffer.proofs.Places.{slice_get-drop}
-use Rattle.undo_log.specs.declared.changes.Change.{Change}
+use Rattle.std.proofs.lemmas.List.Folds.{list_any-append}
+use Rattle.circular_buffer.specs.Buffer.{keep_last}
 use Rattle.undo_log.proofs.Deltas.{is_between}
+use Rattle.undo_log.proofs.Halves.{last_of_both}
 use Rattle.undo_log.proofs.changes.is_any_between.Goals as goal
 
--- an item of the last ones
-here : (xs : List Change) (start number i : ℕ) (x : Change) → Some x ≡ slice_get xs number → number ≡ start + i → get_or (drop start xs) i x ≡ x
-here xs start number i x is e = get_or_from_slice_get (drop start xs) i x x (slice_get-drop start xs i number e ∙ sym is)
+either : (a b : Bool) → b ≡ true → (a || b) ≡ true
+either true b h = refl
+either false b h = h
 
-pub returns-then-is_between : goal.returns-then-is_between
-returns-then-is_between c =
-    let all = c.args.changes.now.items in
-    let start = length c.args.changes.now.items - c.args.count in
-    let i = c.loop-number.number - (length c.args.changes.now.items - c.args.count) in
-    let x = c.in-Some.change.now in
-    let within : i < length (drop start all) = omega (arith, length-drop start all, c.loop-number-test.true, c.len-len.ensures.len, c.loop-number.invariant.from) in
-    let is = here all start c.loop-number.number i x c.in-Some.ensures (omega (arith, c.loop-number.invariant.from)) in
-    sym (list_any_at (is_between c.args.first c.args.end) (drop start all) i x within (ap (is_between c.args.first c.args.end) is ∙ (sym c.is_between.ensures ∙ c.if-is_between.true)))
+neither : (a b : Bool) → b ≡ false → (a || b) ≡ a
+neither true b h = refl
+neither false b h = h
 
-pub loop-number-preserved : goal.loop-number-preserved
-loop-number-preserved c =
-    let all = c.args.changes.now.items in
-    let start = length c.args.changes.now.items - c.args.count in
-    let i = c.loop-number.number - (length c.args.changes.now.items - c.args.count) in
-    let x = c.in-Some.change.now in
+pub returns-then-is_one_between : goal.returns-then-is_one_between
+returns-then-is_one_between c =
+    let front = c.as_slices.result.0.now in
+    let back = c.as_slices.result.1.now in
+    let i = c.min-in_front.result in
+    let j = c.saturating_sub-in_back.result in
+    let older = take (length front - i) (drop i front) in
+    let newer = take (length back - j) (drop j back) in
     let test = is_between c.args.first c.args.end in
-    let within : i < length (drop start all) = omega (arith, length-drop start all, c.loop-number-test.true, c.len-len.ensures.len, c.loop-number.invariant.from) in
-    let is = here all start c.loop-number.number i x c.in-Some.ensures (omega (arith, c.loop-number.invariant.from)) in
-    let next : (c.loop-number.number + 1) - start ≡ i + 1 = omega (arith, c.loop-number.invariant.from) in
-    let fails : test (get_or (drop start all) i x) ≡ false = ap test is ∙ (sym c.is_between.ensures ∙ c.if-is_between.false) in
-    record {
-      from = omega (arith, c.loop-number.invariant.from);
-      none = ap (λ n. list_any test (take n (drop start all))) next ∙ (list_any_more test (drop start all) i x within ∙ ap₂ (λ a b. a || b) c.loop-number.invariant.none fails);
-    }
+    let parts : keep_last c.args.count c.args.changes.now.items ≡ older ++ newer =
+    last_of_both c.args.count i j front back c.args.changes.now.items c.as_slices.ensures
+    (omega (arith, c.min-in_front.ensures, c.saturating_sub-oldest.ensures, c.len.ensures.len)) c.saturating_sub-in_back.ensures in
+    c.if-is_one_between.true
+    ∙ sym (ap (list_any test) parts ∙ (list_any-append test older newer ∙ either (list_any test older) (list_any test newer) (sym c.is_one_between.ensures ∙ c.if-is_one_between.true)))
+
+pub returns-else-is_one_between : goal.returns-else-is_one_between
+returns-else-is_one_between c =
+    let front = c.as_slices.result.0.now in
+    let back = c.as_slices.result.1.now in
+    let i = c.min-in_front.result in
+    let j = c.saturating_sub-in_back.result in
+    let older = take (length front - i) (drop i front) in
+    let newer = take (length back - j) (drop j back) in
+    let test = is_between c.args.first c.args.end in
+    let parts : keep_last c.args.count c.args.changes.now.items ≡ older ++ newer =
+    last_of_both c.args.count i j front back c.args.changes.now.items c.as_slices.ensures
+    (omega (arith, c.min-in_front.ensures, c.saturating_sub-oldest.ensures, c.len.ensures.len)) c.saturating_sub-in_back.ensures in
+    c.is_one_between-else-is_one_between.ensures
+    ∙ sym (ap (list_any test) parts
+    ∙ (list_any-append test older newer ∙ neither (list_any test older) (list_any test newer) (sym c.is_one_between.ensures ∙ c.if-is_one_between.false)))
