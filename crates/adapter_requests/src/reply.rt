@@ -10,6 +10,8 @@ pub enum BreakpointFault {
     Logging,
     /// Its condition is no text, or too long a one.
     NoCondition,
+    /// Its condition is a text that is no expression, whatever names there are.
+    NoExpression,
     /// Its count is no number from 1 on.
     NoCount,
     /// Its message is no text, or too long a one.
@@ -35,13 +37,20 @@ pub enum Breakpoint {
     Refused(BreakpointFault),
 }
 
-/// The references of what can be shown of a frame.
+/// The references of what can be shown of a function's call.
 #[derive(Clone, Copy, Debug, PartialEq, Eq)]
-pub struct Scopes {
+pub struct CallScopes {
     /// That of its local variables.
     pub locals: u64,
     /// That of its parameters.
     pub arguments: u64,
+}
+
+/// The references of what can be shown of a frame.
+#[derive(Clone, Copy, Debug, PartialEq, Eq)]
+pub struct Scopes {
+    /// Those of its call; none at the end of the program, where no function runs.
+    pub call: Option<CallScopes>,
     /// That of the variables of the file.
     pub file: u64,
 }
@@ -160,8 +169,11 @@ pub enum Reply {
     },
     Scopes(Scopes),
     Variables(Vec<Variable>),
-    /// The value that a variable was given.
-    Set(String),
+    /// The value that a variable was given, and the reference of its lanes, 0 where it has none.
+    Set {
+        text: String,
+        reference: u64,
+    },
     /// What an expression, or a line of the console, is answered; the stop, where the line moved; and the reference of the lanes or elements
     /// of a variable or of the lanes of a value that is shown, 0 where there are none.
     Evaluated {

@@ -98,7 +98,11 @@ pub enum Way {
 /// A request, with those of its arguments that mean something here.
 #[derive(Drop)]
 pub enum Request<'a> {
-    Initialize,
+    /// The editor begins to speak.
+    Initialize {
+        /// Whether it wants to hear that values which it shows have changed though the program stood still.
+        hears_invalidated: bool,
+    },
     Launch(Launch<'a>),
     /// The breakpoints of a source, in place of those that it had: each with its line, or why it is none.
     SetBreakpoints {
