@@ -5,8 +5,8 @@ mod reply;
 mod request;
 
 pub use reply::{
-    Breakpoint, BreakpointFault, Completion, Exception, Frame, Reply, Scopes, Stop, StopReason,
-    Thread, Variable, VariableKind,
+    Breakpoint, BreakpointFault, CallScopes, Completion, Exception, Frame, Reply, Scopes, Stop,
+    StopReason, Thread, Variable, VariableKind,
 };
 pub use request::{
     Context, DataBreakpoint, Filter, FunctionBreakpoint, Launch, LineBreakpoint, Page, Request, Way,
