@@ -92,7 +92,7 @@ def refused_names(client, examples):
             "total", "twic", "", {"name": "nothing", "condition": "n == -1 && total == 12"}, {"name": "twice", "condition": "k == 3"},
         )
         same([it.get("message") for it in made], [
-            NO_FUNCTION, UNPLACED, UNPLACED, "its condition is no text of at most 256 bytes", "its count is no number from 1 to 10000000", NO_MESSAGE,
+            NO_FUNCTION, UNPLACED, UNPLACED, "its condition is no text of at most 256 bytes", "its count is none of `N`, `>= N` and `> N`, with a first stop from 1 to 10000000", NO_MESSAGE,
             NO_FUNCTION, NO_FUNCTION, NO_FUNCTION, None, None,
         ])
         same(listed(client), 2)

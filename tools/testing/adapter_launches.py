@@ -117,13 +117,13 @@ def no_breakpoints(client, examples):
     client.launch(examples / "first.ispc")
     client.begin()
     asked = [
-        {"line": 2, "condition": 1}, {"line": 3}, {"line": 3, "hitCondition": ">2"}, {"line": 3, "logMessage": 7}, {"line": "3"},
+        {"line": 2, "condition": 1}, {"line": 3}, {"line": 3, "hitCondition": "==2"}, {"line": 3, "logMessage": 7}, {"line": "3"},
         {}, {"line": -1}, {"line": 2**32}, {"line": 0}, {"line": 50}, {"line": 4, "condition": None}, {"line": 2, "condition": "x" * 257},
         {"line": 2, "hitCondition": "0"}, {"line": 2, "hitCondition": "10000001"}, {"line": 2, "hitCondition": 2}, {"line": 2, "logMessage": "x" * 257},
     ]
     found = client.ask("setBreakpoints", source={"path": client.source}, breakpoints=asked)["breakpoints"]
     unplaced = "its line is no number from 1 to 4294967295, or its name or target is no text"
-    condition, count = "its condition is no text of at most 256 bytes", "its count is no number from 1 to 10000000"
+    condition, count = "its condition is no text of at most 256 bytes", "its count is none of `N`, `>= N` and `> N`, with a first stop from 1 to 10000000"
     message = "its log message is no text of at most 256 bytes"
     same([it.get("message") for it in found], [
         condition, None, count, message, unplaced, unplaced, unplaced, unplaced, unplaced,

@@ -15,8 +15,9 @@ use Rattle.adapter_requests.specs.declared.reply.VariableKind.TheVariants as kin
 use Rattle.adapter_requests.specs.declared.request.Context.TheVariants.{Hover, Watch}
 use Rattle.adapter_requests.specs.declared.request.Filter.TheVariants as filter
 use Rattle.adapter_requests.specs.declared.request.Way.TheVariants.{Backwards, Forwards}
-use Rattle.adapter_messages.specs.Arguments.{breakpoint_in, context_in, filter_in, function_in, head_of, hexadecimal_in, time_number, time_of, unmarked, watch_in}
-use Rattle.adapter_messages.specs.Replies.{attributes, breakpoint, file_name, hint, moved, only, stop_body, time, times, variable_of}
+use Rattle.adapter_messages.specs.Arguments.{breakpoint_in, context_in, filter_in, function_in, head_of, hears_invalidated_in, hexadecimal_in, time_number, time_of, unmarked, watch_in}
+use Rattle.adapter_messages.specs.Counts.{passes_said}
+use Rattle.adapter_messages.specs.Replies.{attributes, breakpoint, file_name, file_scope, hint, known_scope, moved, only, scopes, set_value, stop_body, time, times, variable_of}
 
 -- a request, a message of another type, and one of none
 abbrev of_type : Members → Data
@@ -126,8 +127,39 @@ with_count count = object (member (codes "hitCondition") count (member (codes "l
 the_third_time : breakpoint_in (with_count (string (codes "3"))) ≡ Ok (record { line = 7; condition = None; passes = 2; log = None })
 the_third_time = refl
 
-from_the_third_time : breakpoint_in (with_count (string (codes ">= 3"))) ≡ Err fault.NoCount
+-- counts, one that begins behind a stop, blanks around them, and other comparisons
+from_the_third_time : passes_said (codes ">= 3") ≡ Ok 2
 from_the_third_time = refl
+
+behind_the_third_time : passes_said (codes ">3") ≡ Ok 3
+behind_the_third_time = refl
+
+in_blanks : passes_said (codes " >  3 ") ≡ Ok 3
+in_blanks = refl
+
+always : passes_said (codes "> 0") ≡ Ok 0
+always = refl
+
+the_last_stop : passes_said (codes "> 9999999") ≡ Ok 9999999
+the_last_stop = refl
+
+behind_the_last_stop : passes_said (codes "> 10000000") ≡ Err fault.NoCount
+behind_the_last_stop = refl
+
+from_no_stop : passes_said (codes ">=0") ≡ Err fault.NoCount
+from_no_stop = refl
+
+that_stop_alone : passes_said (codes "== 3") ≡ Err fault.NoCount
+that_stop_alone = refl
+
+up_to_it : passes_said (codes "<=3") ≡ Err fault.NoCount
+up_to_it = refl
+
+each_third_time : passes_said (codes "% 3") ≡ Err fault.NoCount
+each_third_time = refl
+
+no_number : passes_said (codes ">=") ≡ Err fault.NoCount
+no_number = refl
 
 never : breakpoint_in (with_count (string (codes "0"))) ≡ Err fault.NoCount
 never = refl
@@ -186,6 +218,15 @@ a_word_for_it : hexadecimal_in (given (only (codes "format") (only (codes "hex")
 unfolding serde_json_on_literals
 a_word_for_it = refl
 
+-- an editor hears of changes where it says so
+hears : hears_invalidated_in (given (only (codes "supportsInvalidatedEvent") (boolean true))) ≡ true
+unfolding serde_json_on_literals
+hears = refl
+
+hears_nothing : hears_invalidated_in (given (object no_members)) ≡ false
+unfolding serde_json_on_literals
+hears_nothing = refl
+
 -- a request that is not known needs nothing
 another_request : missing (codes "goodbye") (object no_members) ≡ None
 another_request = refl
@@ -238,6 +279,26 @@ a_constant = refl
 
 a_range_of_elements : hint kind.Range (attributes false false) ≡ object (member (codes "attributes") (array no_items) (member (codes "kind") (string (codes "virtual")) no_members))
 a_range_of_elements = refl
+
+-- what was set has the reference of its lanes
+with_lanes : get (codes "variablesReference") (set_value (codes "1 2 3 4") 21) ≡ Some (natural 21)
+with_lanes = refl
+
+-- where no function runs only the variables of the file are shown
+at_the_end : scopes (record { call = None; file = 3 }) ≡ array (item (file_scope 3) no_items)
+at_the_end = refl
+
+in_a_call : scopes (record { call = Some (record { locals = 11; arguments = 12 }); file = 13 })
+    ≡ array (item (known_scope (codes "Locals") (codes "locals") 11) (item (known_scope (codes "Arguments") (codes "arguments") 12) (item (file_scope 13) no_items)))
+in_a_call = refl
+
+-- a text without braces is the format itself
+without_braces : error_body (codes "next") (codes "no history")
+    ≡ only (codes "error") (object
+    (member (codes "format") (string (codes "no history"))
+    (member (codes "id") (natural 1)
+    (member (codes "showUser") (boolean true) no_members))))
+without_braces = refl
 
 -- braces in a text stand in the variable of the format; why nothing is under the mouse is not shown to the user
 in_braces : error_body (codes "evaluate") (codes "{x}")

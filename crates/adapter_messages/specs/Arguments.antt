@@ -5,7 +5,6 @@ use Rattle.std.specs.Borrow.{Bor}
 use Rattle.serde_json.specs.Data.{Data, Items, item, no_items}
 use Rattle.serde_json.specs.Find.{as_array, as_bool, as_null, as_number, as_str, as_u64, get, pointer}
 use Rattle.gang_model.specs.Source.Names.{same_text}
-use Rattle.gang_model.specs.Texts.CommandText.{number}
 use Rattle.gang_model.specs.Texts.Text.{Bytes}
 use Rattle.adapter_requests.specs.declared.reply.BreakpointFault.{BreakpointFault}
 use Rattle.adapter_requests.specs.declared.reply.BreakpointFault.TheVariants as fault
@@ -25,6 +24,7 @@ use Rattle.adapter_requests.specs.declared.request.Way.TheVariants.{Backwards, F
 use Rattle.adapter_messages.specs.declared.arguments.Named.{Named}
 use Rattle.adapter_messages.specs.declared.names.Name.{Name}
 use Rattle.adapter_messages.specs.declared.names.Name.TheVariants as name
+use Rattle.adapter_messages.specs.Counts.{passes_said}
 use Rattle.adapter_messages.specs.Names.{named}
 
 -- a text, a number or a truth value at a place of a message
@@ -72,6 +72,10 @@ pub record IsLaunch (message : Data) (launch : Launch) : Type 0 where
   pub steps : number_at (codes "/arguments/steps") message ≡ launch.steps
   pub stops_on_entry : unwrap_or (flag_at (codes "/arguments/stopOnEntry") message) true ≡ launch.stops_on_entry
   pub lane_threads : unwrap_or (flag_at (codes "/arguments/laneThreads") message) false ≡ launch.lane_threads
+
+-- whether an editor wants to hear that values have changed though the program stood still
+abbrev pub hears_invalidated_in : Data → Bool
+hears_invalidated_in message = unwrap_or (flag_at (codes "/arguments/supportsInvalidatedEvent") message) false
 
 -- whether values are asked for as hexadecimal numbers
 abbrev pub hexadecimal_in : Data → Bool
@@ -189,21 +193,12 @@ condition_by false (Some text) = fitting text
 abbrev pub condition_in : Data → Result (Option Bytes) BreakpointFault
 condition_in d = condition_by (is_absent (get (codes "condition") d)) (option_and_then as_str (get (codes "condition") d))
 
--- at the K-th of its stops K - 1 are passed
-abbrev pub passes_before : Option ℕ → Result ℕ BreakpointFault
-passes_before None = Err fault.NoCount
-passes_before (Some k) = Ok (k - 1)
-
--- an empty count is none: no stop is passed
-abbrev pub passes_said : Bytes → Result ℕ BreakpointFault
-passes_said text = if length text == 0 then Ok 0 else passes_before (number text)
-
 abbrev pub passes_by : (is_absent : Bool) → Option Bytes → Result ℕ BreakpointFault
 passes_by true text = Ok 0
 passes_by false None = Err fault.NoCount
 passes_by false (Some text) = passes_said text
 
--- how many stops of a breakpoint are passed: a decimal number K from 1 to 10,000,000 lets it stop the K-th time and from then on
+-- how many stops of a breakpoint are passed
 abbrev pub passes_in : Data → Result ℕ BreakpointFault
 passes_in d = passes_by (is_absent (get (codes "hitCondition") d)) (option_and_then as_str (get (codes "hitCondition") d))
 
@@ -287,7 +282,7 @@ breakpoints_of message = unwrap_or (option_and_then as_array (pointer (codes "/a
 
 -- a message is a request of a name
 abbrev pub IsRequestNamed : Name → Data → Request → Type 0
-IsRequestNamed name.Initialize message request.Initialize = Unit {0}
+IsRequestNamed name.Initialize message (request.Initialize hears_invalidated) = hears_invalidated ≡ hears_invalidated_in message
 IsRequestNamed name.Launch message (request.Launch launch) = IsLaunch message launch
 IsRequestNamed name.SetBreakpoints message (request.SetBreakpoints source lines) = (text_at (codes "/arguments/source/path") message ≡ text_of source) × (map asked_breakpoint lines.items ≡ each_asked breakpoint_in (breakpoints_of message))
 IsRequestNamed name.SetFunctionBreakpoints message (request.SetFunctionBreakpoints functions) = map asked_function functions.items ≡ each_asked function_in (breakpoints_of message)

@@ -1,4 +1,5 @@
 pub mod Arguments
+pub mod Counts
 pub mod Faults
 pub mod Messages
 pub mod Names

@@ -1,5 +1,6 @@
 -- The messages of the protocol.
-use Rattle.std.specs.Prelude.{ℕ, Bool, true, false, Option, Some, codes}
+use Rattle.std.specs.Prelude.{ℕ, ◌==◌, ◌||◌, Bool, true, false, Option, Some, codes, if◌then◌else◌}
+use Rattle.std.specs.List.{list_any}
 use Rattle.serde_json.specs.Data.{Data, boolean, member, no_members, number, object, string, unsigned}
 use Rattle.gang_model.specs.Texts.Text.{Bytes}
 use Rattle.adapter_requests.specs.declared.reply.StopReason.{StopReason}
@@ -34,13 +35,28 @@ shows_user (Some name.Completions) = false
 shows_user (Some name.Evaluate) = false
 shows_user other = true
 
+-- whether a text has a brace, by which a format names a variable
+abbrev pub has_brace : Bytes → Bool
+has_brace text = list_any (λ byte. (byte == 123) || (byte == 125)) text
+
+-- an error by its text, which is its format
+abbrev pub plain_error : (shows_user : Bool) → (text : Bytes) → Data
+plain_error shows_user text = object
+    (member (codes "format") (string text)
+    (member (codes "id") (natural 1)
+    (member (codes "showUser") (boolean shows_user) no_members)))
+
 -- an error by its text, which is that of the one variable of its format: braces in the text name none
-abbrev pub error : (shows_user : Bool) → (text : Bytes) → Data
-error shows_user text = object
+abbrev pub error_by_variable : (shows_user : Bool) → (text : Bytes) → Data
+error_by_variable shows_user text = object
     (member (codes "format") (string (codes "{text}"))
     (member (codes "id") (natural 1)
     (member (codes "showUser") (boolean shows_user)
     (member (codes "variables") (object (member (codes "text") (string text) no_members)) no_members))))
+
+-- an error by its text
+abbrev pub error : (shows_user : Bool) → (text : Bytes) → Data
+error shows_user text = if has_brace text then error_by_variable shows_user text else plain_error shows_user text
 
 -- what a refused request is told
 abbrev pub error_body : (command text : Bytes) → Data

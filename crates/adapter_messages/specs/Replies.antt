@@ -9,6 +9,7 @@ use Rattle.adapter_requests.specs.declared.reply.Breakpoint.{Breakpoint}
 use Rattle.adapter_requests.specs.declared.reply.Breakpoint.TheVariants.{Stands, Refused}
 use Rattle.adapter_requests.specs.declared.reply.BreakpointFault.{BreakpointFault}
 use Rattle.adapter_requests.specs.declared.reply.BreakpointFault.TheVariants as fault
+use Rattle.adapter_requests.specs.declared.reply.CallScopes.{CallScopes}
 use Rattle.adapter_requests.specs.declared.reply.Completion.{Completion}
 use Rattle.adapter_requests.specs.declared.reply.Exception.{Exception}
 use Rattle.adapter_requests.specs.declared.reply.Frame.{Frame}
@@ -89,7 +90,8 @@ abbrev pub fault_text : BreakpointFault → Bytes
 fault_text fault.Unplaced = codes "its line is no number from 1 to 4294967295, or its name or target is no text"
 fault_text fault.Logging = codes "only a breakpoint of a line has a log message"
 fault_text fault.NoCondition = codes "its condition is no text of at most 256 bytes"
-fault_text fault.NoCount = codes "its count is no number from 1 to 10000000"
+fault_text fault.NoExpression = codes "its condition is no expression"
+fault_text fault.NoCount = codes "its count is none of `N`, `>= N` and `> N`, with a first stop from 1 to 10000000"
 fault_text fault.NoMessage = codes "its log message is no text of at most 256 bytes"
 fault_text fault.OtherSource = codes "this source is not the program's"
 fault_text fault.NoStep = codes "no step stands on this line or behind it"
@@ -188,12 +190,16 @@ file_scope reference = object
     (member (codes "name") (string (codes "File"))
     (member (codes "variablesReference") (natural reference) no_members)))
 
+-- the scopes of a function's call, before others; none at the end of the program, where no function runs
+abbrev pub before_file : Option CallScopes → Items → Items
+before_file None others = others
+before_file (Some call) others =
+    item (known_scope (codes "Locals") (codes "locals") call.locals)
+    (item (known_scope (codes "Arguments") (codes "arguments") call.arguments) others)
+
 -- the scopes of a frame
 abbrev pub scopes : Scopes → Data
-scopes shown = array
-    (item (known_scope (codes "Locals") (codes "locals") shown.locals)
-    (item (known_scope (codes "Arguments") (codes "arguments") shown.arguments)
-    (item (file_scope shown.file) no_items)))
+scopes shown = array (before_file shown.call (item (file_scope shown.file) no_items))
 
 -- that what is shown can be set, or cannot: it is a constant, or is only looked at where it stands
 abbrev pub attributes : (is_constant is_read_only : Bool) → Items
@@ -242,6 +248,10 @@ variable shown = variable_of shown.kind (attributes shown.is_constant shown.is_r
 abbrev pub evaluated : (text : Bytes) → (reference : ℕ) → Data
 evaluated text reference = object (member (codes "result") (string text) (member (codes "variablesReference") (natural reference) no_members))
 
+-- what a variable was set to: the value that it has then, and the reference of its lanes, by which they stay open, 0 if it has none
+abbrev pub set_value : (value : Bytes) → (reference : ℕ) → Data
+set_value value reference = object (member (codes "value") (string value) (member (codes "variablesReference") (natural reference) no_members))
+
 -- a fault at which the program stands still: its number and name, its lane and what it means
 abbrev pub exception : Exception → Data
 exception shown = object
@@ -267,7 +277,7 @@ body_of command program (reply.Threads shown) = only (codes "threads") (array_of
 body_of command program (reply.Frames shown total) = frames program shown.items total
 body_of command program (reply.Scopes shown) = only (codes "scopes") (scopes shown)
 body_of command program (reply.Variables shown) = only (codes "variables") (array_of variable shown.items)
-body_of command program (reply.Set value) = only (codes "value") (string (string_bytes value))
+body_of command program (reply.Set text reference) = set_value (string_bytes text) reference
 body_of command program (reply.Evaluated text reason reference) = evaluated (string_bytes text) reference
 body_of command program (reply.Exception shown) = exception shown
 body_of command program (reply.Moved stop) = moved command
@@ -303,6 +313,10 @@ stop_body reason thread text = object
     (member (codes "reason") (string (reason_text reason))
     (member (codes "text") (string text)
     (member (codes "threadId") (natural thread) no_members))))))
+
+-- what the event of a change tells: the values of variables are to be asked for anew
+abbrev pub change_body : Data
+change_body = only (codes "areas") (array (item (string (codes "variables")) no_items))
 
 -- what the event of an output tells: a text for the console
 abbrev pub output_body : (text : Bytes) → Data

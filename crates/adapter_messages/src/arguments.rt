@@ -1,13 +1,13 @@
 //! The arguments of requests.
 ghost use Rattle.std.specs.Prelude.{◌≡◌, IfOk, Some, codes, map, option_map};
-ghost use Rattle.gang_model.specs.Texts.CommandText.{number};
 ghost use Rattle.serde_json.specs.View.{items_view, view};
-ghost use Rattle.adapter_messages.specs.Arguments.{as_counted_line, asked_breakpoint, asked_function, asked_name, asked_option, asked_watch, breakpoint_in, breakpoints_of, condition_in, context_in, each_asked, filter_in, flag_at, function_in, has_log, hexadecimal_in, is_absent, joined, joined_name, line_at, line_in, log_in, logging, named_in, number_at, page_in, passes_in, passes_said, text_at, text_of, time_in, time_of, unmarked, watch_in, way_of};
+ghost use Rattle.adapter_messages.specs.Arguments.{as_counted_line, asked_breakpoint, asked_function, asked_name, asked_option, asked_watch, breakpoint_in, breakpoints_of, condition_in, context_in, each_asked, filter_in, flag_at, function_in, has_log, hears_invalidated_in, hexadecimal_in, is_absent, joined, joined_name, line_at, line_in, log_in, logging, named_in, number_at, page_in, passes_in, text_at, text_of, time_in, time_of, unmarked, watch_in, way_of};
 
+use crate::counts::passes_said;
 use adapter_requests::{
     BreakpointFault, Context, DataBreakpoint, Filter, FunctionBreakpoint, LineBreakpoint, Page, Way,
 };
-use debug_words::{Radix, digits_number, is_same};
+use debug_words::is_same;
 use serde_json::Value;
 use std::alloc::{AllocError, Global};
 
@@ -16,9 +16,6 @@ const LONGEST_CONDITION: usize = 256;
 
 /// The most bytes of a message.
 const LONGEST_MESSAGE: usize = 256;
-
-/// The largest count.
-const LARGEST_COUNT: u128 = 10_000_000;
 
 /// The text at a place of a message, if there is one.
 pub(crate) fn text_at<'a>(message: &'a Value, path: &str) -> Option<&'a str>
@@ -212,31 +209,6 @@ fn passes_of(breakpoint: &Value) -> Result<u32, BreakpointFault>
     }
 }
 
-/// How many stops are passed by the text of a count; an empty one is none.
-fn passes_said(text: &str) -> Result<u32, BreakpointFault>
-    ensures { result ≡ passes_said text.now }
-{
-    if text.is_empty() {
-        return Ok(0);
-    }
-    match count_of(text) {
-        Some(count) => Ok(count.saturating_sub(1)),
-        None => Err(BreakpointFault::NoCount),
-    }
-}
-
-/// The count that a text spells.
-fn count_of(text: &str) -> Option<u32>
-    ensures { result ≡ number text.now }
-{
-    let count = digits_number(Radix::Decimal, text.as_bytes())?;
-    if 1 <= count && count <= LARGEST_COUNT {
-        Some(count as u32)
-    } else {
-        None
-    }
-}
-
 /// What is asked for by a text: a breakpoint of a function, or a watch.
 #[derive(Clone, Copy)]
 struct Named<'a> {
@@ -342,6 +314,13 @@ pub(crate) fn is_absent(value: Option<&Value>) -> bool
         None => true,
         Some(value) => value.is_null(),
     }
+}
+
+/// Whether an editor wants to hear that values have changed though the program stood still.
+pub(crate) fn hears_invalidated(message: &Value) -> bool
+    ensures { result ≡ hears_invalidated_in (view message.now) }
+{
+    flag_at(message, "/arguments/supportsInvalidatedEvent").unwrap_or(false)
 }
 
 /// Whether a message asks for values as hexadecimal numbers.

@@ -39,7 +39,9 @@ pub(crate) fn body_of(
         } => frames(alloc, program, made, *total),
         Reply::Scopes(shown) => scopes(alloc, shown),
         Reply::Variables(found) => variables(alloc, found),
-        Reply::Set(value) => json!(in alloc; {"value": value.as_str()}),
+        Reply::Set { text, reference } => {
+            json!(in alloc; {"value": text.as_str(), "variablesReference": *reference})
+        }
         Reply::Evaluated {
             text,
             reason: _,
@@ -287,7 +289,10 @@ fn fault_text(fault: BreakpointFault) -> &'static str
         }
         BreakpointFault::Logging => "only a breakpoint of a line has a log message",
         BreakpointFault::NoCondition => "its condition is no text of at most 256 bytes",
-        BreakpointFault::NoCount => "its count is no number from 1 to 10000000",
+        BreakpointFault::NoExpression => "its condition is no expression",
+        BreakpointFault::NoCount => {
+            "its count is none of `N`, `>= N` and `> N`, with a first stop from 1 to 10000000"
+        }
         BreakpointFault::NoMessage => "its log message is no text of at most 256 bytes",
         BreakpointFault::OtherSource => "this source is not the program's",
         BreakpointFault::NoStep => "no step stands on this line or behind it",
@@ -385,14 +390,19 @@ fn file_name(path: &str) -> &str
     }
 }
 
-/// The scopes of a frame.
+/// The scopes of a frame: those of its call first, if there is one.
 fn scopes(alloc: Global, shown: &Scopes) -> Result<Value, AllocError>
     ensures { IfOk result (λ v. view v ≡ only (codes "scopes") (scopes shown.now)) }
 {
-    let locals = known_scope(alloc, "Locals", "locals", shown.locals)?;
-    let arguments = known_scope(alloc, "Arguments", "arguments", shown.arguments)?;
     let file = file_scope(alloc, shown.file)?;
-    json!(in alloc; {"scopes": [locals, arguments, file]})
+    match shown.call {
+        None => json!(in alloc; {"scopes": [file]}),
+        Some(call) => {
+            let locals = known_scope(alloc, "Locals", "locals", call.locals)?;
+            let arguments = known_scope(alloc, "Arguments", "arguments", call.arguments)?;
+            json!(in alloc; {"scopes": [locals, arguments, file]})
+        }
+    }
 }
 
 /// A scope of a kind that the protocol knows.

@@ -3,10 +3,13 @@
 
 mod arguments;
 mod bodies;
+mod counts;
 mod names;
 mod replies;
 mod requests;
 mod variables;
 
-pub use replies::{event_message, failure_message, output_body, reply_message, stop_body};
+pub use replies::{
+    change_body, event_message, failure_message, output_body, reply_message, stop_body,
+};
 pub use requests::{Head, RequestFault, read_head, read_request};

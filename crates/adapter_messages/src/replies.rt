@@ -1,8 +1,8 @@
 //! Replies and events as JSON.
 ghost use Rattle.std.specs.Prelude.{◌≡◌, IfOk, option_map};
 ghost use Rattle.serde_json.specs.View.{view};
-ghost use Rattle.adapter_messages.specs.Messages.{error, event, failure, reason_text, response, shows_user};
-ghost use Rattle.adapter_messages.specs.Replies.{message_of, output_body, refusal, stop_body};
+ghost use Rattle.adapter_messages.specs.Messages.{error, event, failure, has_brace, reason_text, response, shows_user};
+ghost use Rattle.adapter_messages.specs.Replies.{change_body, message_of, output_body, refusal, stop_body};
 
 use crate::bodies::body_of;
 use crate::names::{Name, named};
@@ -91,12 +91,23 @@ pub fn failure_message(
 fn error_value(alloc: Global, shows_user: bool, text: &str) -> Result<Value, AllocError>
     ensures { IfOk result (λ v. view v ≡ error shows_user text.now) }
 {
-    json!(in alloc; {
-        "id": 1u64,
-        "format": "{text}",
-        "variables": {"text": text},
-        "showUser": shows_user
-    })
+    if has_brace(text.as_bytes()) {
+        json!(in alloc; {
+            "id": 1u64,
+            "format": "{text}",
+            "variables": {"text": text},
+            "showUser": shows_user
+        })
+    } else {
+        json!(in alloc; {"id": 1u64, "format": text, "showUser": shows_user})
+    }
+}
+
+/// Whether a text has a brace, by which a format names a variable.
+fn has_brace(text: &[u8]) -> bool
+    ensures { result ≡ has_brace text.now }
+{
+    text.iter().any(|byte| matches!(*byte, b'{' | b'}'))
 }
 
 /// Whether the user is shown why a request was refused: what editors ask for by themselves, or show in the place of a value, is
@@ -178,6 +189,13 @@ fn reason_text(reason: StopReason) -> &'static str
         StopReason::Pause => "pause",
         StopReason::Goto => "goto",
     }
+}
+
+/// What the event of a change tells: that the values of variables are to be asked for anew.
+pub fn change_body(alloc: Global) -> Result<Value, AllocError>
+    ensures { IfOk result (λ v. view v ≡ change_body) }
+{
+    json!(in alloc; {"areas": ["variables"]})
 }
 
 /// What the event of an output tells: a text for the console.

@@ -7,8 +7,8 @@ ghost use Rattle.adapter_messages.specs.Faults.{IsRefused, IsRefusedNamed, Names
 ghost use Rattle.adapter_messages.specs.declared.requests.RequestFault.TheVariants.{Memory};
 
 use crate::arguments::{
-    context_of, flag_at, functions_of, is_absent, is_hexadecimal, line_at, lines_of, number_at,
-    page_of, text_at, time_in, unmarked, watches_of,
+    context_of, flag_at, functions_of, hears_invalidated, is_absent, is_hexadecimal, line_at,
+    lines_of, number_at, page_of, text_at, time_in, unmarked, watches_of,
 };
 use crate::names::{Name, named};
 use adapter_requests::{Launch, Request};
@@ -86,7 +86,9 @@ pub fn read_request<'a>(
         return Ok(Request::Unknown(command));
     };
     match name {
-        Name::Initialize => Ok(Request::Initialize),
+        Name::Initialize => Ok(Request::Initialize {
+            hears_invalidated: hears_invalidated(message),
+        }),
         Name::Launch => read_launch(message),
         Name::SetBreakpoints => read_breakpoints(alloc, message),
         Name::SetFunctionBreakpoints => read_functions(alloc, message),
