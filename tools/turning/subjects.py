@@ -126,7 +126,7 @@ SUBJECTS = {
         ("lane_counts", "lane_meetings", "lane_profile", "element_accesses", "element_touches", "profile_texts"), of_runs(profiles.runs)
     ),
     "adapter": Subject(
-        ("adapter_frames", "adapter_messages", "adapter_replies", "adapter_session", "opened_texts", "log_points", "adapter_server"),
+        ("adapter_frames", "adapter_messages", "adapter_replies", "adapter_session", "adapter_paths", "opened_texts", "log_points", "adapter_server"),
         of_adapter,
         of_devices("an editor"),
     ),

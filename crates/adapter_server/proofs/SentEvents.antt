@@ -10,10 +10,10 @@ use Rattle.gang_model.specs.Texts.Text.{Bytes}
 use Rattle.adapter_requests.specs.declared.reply.StopReason.{StopReason}
 use Rattle.adapter_requests.specs.declared.reply.StopReason.TheVariants as reason
 use Rattle.adapter_messages.specs.Messages.{event}
-use Rattle.adapter_messages.specs.Replies.{output_body, stop_body}
+use Rattle.adapter_messages.specs.Replies.{change_body, output_body, stop_body}
 use Rattle.adapter_server.specs.declared.connection.Connection.{Connection}
 use Rattle.adapter_server.specs.declared.events.Event.{Event}
-use Rattle.adapter_server.specs.Events.{ToldEvent, Says, Stops, Ends, event_view, last_stop}
+use Rattle.adapter_server.specs.Events.{ToldEvent, Says, Stops, Changes, Ends, event_view, last_stop}
 use Rattle.adapter_server.proofs.ServedRequests.{on_ok_then}
 use Rattle.adapter_server.specs.Sending.{Sends, SendsOne, event_data, events_bytes, given, message_bytes, number_behind, number_behind_all}
 
@@ -21,6 +21,9 @@ use Rattle.adapter_server.specs.Sending.{Sends, SendsOne, event_data, events_byt
 
 pub output_plain : (text : Bytes) → has_float (output_body text) ≡ false
 output_plain text = refl
+
+pub change_plain : has_float change_body ≡ false
+change_plain = refl
 
 pub stop_plain : (why : StopReason) (thread : ℕ) (text : Bytes) → has_float (stop_body why thread text) ≡ false
 stop_plain reason.Entry thread text = refl
@@ -56,6 +59,7 @@ last_more : (before : StopReason) (events : List ToldEvent) (one : ToldEvent) �
 last_more before [] one = refl
 last_more before (Says text ∷ others) one = last_more before others one
 last_more before (Stops why thread text ∷ others) one = last_more why others one
+last_more before (Changes ∷ others) one = last_more before others one
 last_more before (Ends ∷ others) one = last_more before others one
 
 module _ {R O : Type 0} (contents : O → Option Bytes) where
@@ -71,10 +75,11 @@ module _ {R O : Type 0} (contents : O → Option Bytes) where
       (λ bytes. record {
         bytes = subst (λ it. Appends (given contents old) (given contents new) (message_bytes it)) whole (subst (λ before. Appends before (given contents new) (message_bytes message)) (ap (given contents) behind) bytes);
         next = ap (λ (c : Connection R O). c.next) left ∙ ap (λ (c : Connection R O). c.next) behind;
+        hears = ap (λ (c : Connection R O). c.hears_changes) left ∙ ap (λ (c : Connection R O). c.hears_changes) behind;
       })
 
   pub sends_none : (connection : Connection R O) → Sends contents connection connection []
-  sends_none connection = record { bytes = Appends-nil (given contents connection); next = refl; stopped = refl }
+  sends_none connection = record { bytes = Appends-nil (given contents connection); next = refl; stopped = refl; hears = refl }
 
   pub sends_more : (old middle new : Connection R O) (events : List ToldEvent) (one : ToldEvent) → Sends contents old middle events → SendsOne contents middle new (event_data one)
       → new.stopped ≡ last_stop middle.stopped (one ∷ []) → Sends contents old new (events ++ one ∷ [])
@@ -86,6 +91,7 @@ module _ {R O : Type 0} (contents : O → Option Bytes) where
             (ap (λ number. events_bytes old.next events ++ message number) before.next ∙ sym (bytes_more old.next events one)) bytes;
         next = sent.next ∙ ap number_behind before.next ∙ sym (number_more old.next events one);
         stopped = stopped ∙ ap (λ why. last_stop why (one ∷ [])) before.stopped ∙ sym (last_more old.stopped events one);
+        hears = sent.hears ∙ before.hears;
       }
 
   -- the same of one more of a list, at any default

@@ -13,6 +13,7 @@ use Rattle.adapter_session.specs.declared.terms.Terms.{Terms as GivenTerms}
 use Rattle.adapter_session.specs.Done.{DoesRequest}
 use Rattle.adapter_session.specs.Terms.{terms_of}
 use Rattle.adapter_server.specs.Serving.{Answers, Asks, AsksHere, Begins, BeginsBy, DoesOne, Follows, GoesUnless, IsAsked, MayDo, MayFollow, Run, Setup, run_of}
+use Rattle.adapter_server.specs.Spelling.{path_for}
 use Rattle.serde_json.specs.Data.{Data}
 
 -- what holds where nothing failed, of what always holds, and of what follows from it
@@ -110,17 +111,17 @@ module _ {M : Type 0} (stands : M → Setting → Debugger → Type 0) where
     alone request.Disconnect run = refl
     alone (request.Unknown name) run = refl
 
-    pub follows_asking : {T E : Type 0} (asked : Request) (old new : Run M) (result : Result T E) → Asks stands setup.program asked old new result → Follows stands setup asked old new
+    pub follows_asking : {T E : Type 0} (asked : Request) (old new : Run M) (result : Result T E) → Asks stands (path_for setup.program asked) asked old new result → Follows stands setup asked old new
     follows_asking asked old new (Ok reply) does = inr (record { middle = new; does = does; follows = alone asked new })
     follows_asking asked old new (Err error) same = inl same
 
     -- a run that begins behind `configurationDone`
-    pub follows_beginning : {T E : Type 0} (asked : Request) (old middle new : Run M) (result : Result T E) (reply : T) → asked ≡ request.ConfigurationDone → result ≡ Ok reply → Asks stands setup.program asked old middle result
+    pub follows_beginning : {T E : Type 0} (asked : Request) (old middle new : Run M) (result : Result T E) (reply : T) → asked ≡ request.ConfigurationDone → result ≡ Ok reply → Asks stands (path_for setup.program asked) asked old middle result
         → Begins stands setup middle new → Follows stands setup asked old new
     follows_beginning asked old middle new result reply is ok does begins =
         inr (record {
           middle = middle;
-          does = does_one setup.program asked old middle result reply ok does;
+          does = does_one (path_for setup.program asked) asked old middle result reply ok does;
           follows = subst (λ a. MayFollow stands setup a middle new) (sym is) (inr begins);
         })
 

@@ -22,7 +22,7 @@ module _ {M R O : Type 0} (stands : M → Setting → Debugger → Type 0) (cont
   -- a request was done, and what is behind it was sent unless something failed
   pub told_one : {T E : Type 0} (asked : Request) (before after : Connection R O) (old new : Run M) (result : Result T E) (answered : Answered)
       → ((s : Setting) (d : Debugger) → StandsFor stands old.session s d → DoesRequest stands s program asked d old.terms answered new.session new.terms)
-      → ((s : Setting) (d : Debugger) → StandsFor stands new.session s d → OnOk result (Sends contents before after (events_behind seen s d asked before.stopped answered)))
+      → ((s : Setting) (d : Debugger) → StandsFor stands new.session s d → OnOk result (Sends contents before after (events_behind seen before.hears_changes s d asked before.stopped answered)))
       → OnOk result (TellsOne stands contents seen program asked before after old new)
   told_one asked before after old new (Ok x) answered does sends = record { answered = answered; does = does; sends = sends }
   told_one asked before after old new (Err e) answered does sends = tt
@@ -53,13 +53,13 @@ module _ {M R O : Type 0} (stands : M → Setting → Debugger → Type 0) (cont
 
   -- events are sent that are those behind another answer
   pub sent_same : (asked : Request) (before after : Connection R O) (new : Run M) (given answered : Answered)
-      → ((s : Setting) (d : Debugger) → events_behind seen s d asked before.stopped given ≡ events_behind seen s d asked before.stopped answered)
-      → ((s : Setting) (d : Debugger) → StandsFor stands new.session s d → Sends contents before after (events_behind seen s d asked before.stopped given))
-      → (s : Setting) (d : Debugger) → StandsFor stands new.session s d → Sends contents before after (events_behind seen s d asked before.stopped answered)
+      → ((s : Setting) (d : Debugger) → events_behind seen before.hears_changes s d asked before.stopped given ≡ events_behind seen before.hears_changes s d asked before.stopped answered)
+      → ((s : Setting) (d : Debugger) → StandsFor stands new.session s d → Sends contents before after (events_behind seen before.hears_changes s d asked before.stopped given))
+      → (s : Setting) (d : Debugger) → StandsFor stands new.session s d → Sends contents before after (events_behind seen before.hears_changes s d asked before.stopped answered)
   sent_same asked before after new given answered same sends s d st = subst (Sends contents before after) (same s d) (sends s d st)
 
 -- other texts that open change nothing of what was sent
 pub replied_same : {R O : Type 0} (contents : O → Option Bytes) (before after : Connection R O) (opened : OpenedTexts) (message : ℕ → Data)
     → SendsReply contents (record before { opened = opened }) after message → SendsReply contents before after message
 replied_same contents before after opened message sends =
-    record { sent = record { text = sends.sent.text; in_order = sends.sent.in_order; bytes = sends.sent.bytes }; next = sends.next; stopped = sends.stopped }
+    record { sent = record { text = sends.sent.text; in_order = sends.sent.in_order; bytes = sends.sent.bytes }; next = sends.next; stopped = sends.stopped; hears = sends.hears }

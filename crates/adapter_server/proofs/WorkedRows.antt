@@ -1,10 +1,15 @@
--- Rows that the check computes from the definitions: two texts were written, and a third is left out; stops that are told; the bytes of events;
+-- Rows that the check computes from the definitions: two texts were written, and a third is left out; stops and changes that are told; what lines do; the bytes of events;
 -- two texts open, and no third one.
 use Rattle.std.proofs.Common.{◌≡◌, refl, ℕ, true, false, List, [], ◌∷◌, ◌++◌, codes, Some, None}
 use Rattle.std.specs.Fmt.{digits}
 use Rattle.serde_json.proofs.OnLiterals.{serde_json_on_literals}
 use Rattle.adapter_requests.specs.declared.reply.StopReason.TheVariants as reason
-use Rattle.adapter_server.specs.Events.{Says, Stops, Ends, last_stop}
+use Rattle.std.specs.Borrow.{Bor}
+use Rattle.adapter_requests.specs.declared.reply.Reply.TheVariants as reply
+use Rattle.adapter_requests.specs.declared.request.Request.TheVariants as request
+use Rattle.adapter_server.specs.declared.effects.Effect.TheVariants as effect
+use Rattle.adapter_server.specs.Effects.{line_effect}
+use Rattle.adapter_server.specs.Events.{Says, Stops, Changes, Ends, change_events, last_stop}
 use Rattle.adapter_server.specs.Opening.{text_at}
 use Rattle.adapter_server.specs.Sending.{events_bytes}
 use Rattle.adapter_server.specs.Writing.{console_line, console_lines}
@@ -24,6 +29,32 @@ the_last_of_two = refl
 
 no_stop : last_stop reason.Entry (Says [] ∷ Ends ∷ []) ≡ reason.Entry
 no_stop = refl
+
+-- a value that is set, of which an editor hears or does not; and none that is refused
+heard : (reference : ℕ) (name value : Bor (List ℕ)) (text : String) → change_events true (request.SetVariable reference name value false) (reply.Set text 0) ≡ Changes ∷ []
+heard reference name value text = refl
+
+not_heard : (reference : ℕ) (name value : Bor (List ℕ)) (text : String) → change_events false (request.SetVariable reference name value false) (reply.Set text 0) ≡ []
+not_heard reference name value text = refl
+
+refused : (reference : ℕ) (name value : Bor (List ℕ)) (text : String) → change_events true (request.SetVariable reference name value false) (reply.Refused text) ≡ []
+refused reference name value text = refl
+
+-- lines of the console that set a value and that end the session, in the debugger's words and in the prompt's, and one that does neither
+sets_a_value : line_effect (codes "set var x = 3") ≡ effect.Sets
+sets_a_value = refl
+
+in_the_prompts_words : line_effect (codes "set x = 3") ≡ effect.Sets
+in_the_prompts_words = refl
+
+quits_by_a_letter : line_effect (codes "q") ≡ effect.Quits
+quits_by_a_letter = refl
+
+exits : line_effect (codes "exit") ≡ effect.Quits
+exits = refl
+
+shows_a_value : line_effect (codes "x") ≡ effect.Tells
+shows_a_value = refl
 
 -- a line of the console and the end, as messages 5 and 6
 two_messages : events_bytes 5 (Says (codes "x = 1\n") ∷ Ends ∷ [])

@@ -1,7 +1,9 @@
+pub mod Effects
 pub mod Events
 pub mod Opening
 pub mod Sending
 pub mod Serving
+pub mod Spelling
 pub mod Telling
 pub mod Threads
 pub mod Writing

@@ -6,9 +6,9 @@ use Rattle.serde_json.specs.Written.{compact_text}
 use Rattle.gang_model.specs.Texts.Text.{Bytes}
 use Rattle.adapter_frames.specs.Frames.{frame}
 use Rattle.adapter_messages.specs.Messages.{event}
-use Rattle.adapter_messages.specs.Replies.{output_body, stop_body}
+use Rattle.adapter_messages.specs.Replies.{change_body, output_body, stop_body}
 use Rattle.adapter_server.specs.declared.connection.Connection.{Connection}
-use Rattle.adapter_server.specs.Events.{ToldEvent, Says, Stops, Ends, last_stop}
+use Rattle.adapter_server.specs.Events.{ToldEvent, Says, Stops, Changes, Ends, last_stop}
 
 -- the number of the message behind one
 abbrev pub number_behind : ℕ → ℕ
@@ -18,6 +18,7 @@ number_behind number = min (number + 1) (2 ^ 64 - 1)
 abbrev pub event_data : ToldEvent → (number : ℕ) → Data
 event_data (Says text) number = event number (codes "output") (output_body text)
 event_data (Stops reason thread text) number = event number (codes "stopped") (stop_body reason thread text)
+event_data Changes number = event number (codes "invalidated") change_body
 event_data Ends number = event number (codes "terminated") (object no_members)
 
 -- the bytes of a message
@@ -38,13 +39,15 @@ number_behind_all number (told ∷ others) = number_behind_all (number_behind nu
 abbrev pub given : {R O : Type 0} → (O → Option Bytes) → Connection R O → Option Bytes
 given contents connection = contents connection.writer
 
--- a message was sent under the next number
+-- a message was sent under the next number; what the editor hears of stays
 pub record SendsOne {R O : Type 0} (contents : O → Option Bytes) (old new : Connection R O) (message : ℕ → Data) : Type 0 where
   pub bytes : Appends (given contents old) (given contents new) (message_bytes (message old.next))
   pub next : new.next ≡ number_behind old.next
+  pub hears : new.hears_changes ≡ old.hears_changes
 
 -- events were sent in their order, and nothing else; and the last stop is kept
 pub record Sends {R O : Type 0} (contents : O → Option Bytes) (old new : Connection R O) (events : List ToldEvent) : Type 0 where
   pub bytes : Appends (given contents old) (given contents new) (events_bytes old.next events)
   pub next : new.next ≡ number_behind_all old.next events
   pub stopped : new.stopped ≡ last_stop old.stopped events
+  pub hears : new.hears_changes ≡ old.hears_changes

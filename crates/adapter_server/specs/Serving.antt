@@ -30,6 +30,7 @@ use Rattle.adapter_session.specs.Restored.{CanKeepNumbers, numbers, restored, st
 use Rattle.adapter_session.specs.Terms.{Terms, terms_of}
 use Rattle.adapter_server.specs.declared.connection.Connection.{Connection}
 use Rattle.adapter_server.specs.declared.launching.LaunchMessage.{LaunchMessage}
+use Rattle.adapter_server.specs.Spelling.{path_for}
 
 -- the path of the program that a launch names
 abbrev pub path_of : LaunchMessage → Bytes
@@ -118,10 +119,10 @@ abbrev pub MayFollow : {M : Type 0} → (M → Setting → Debugger → Type 0) 
 MayFollow stands setup request.ConfigurationDone old new = (new ≡ old) ⊎ Begins stands setup old new
 MayFollow stands setup other old new = new ≡ old
 
--- a request was done, and what may follow it
+-- a request was done, which knows the program by the path of its source, where this is the program's, and what may follow it
 pub record DoesAll {M : Type 0} (stands : M → Setting → Debugger → Type 0) (setup : Setup) (request : Request) (old new : Run M) : Type 0 where
   pub middle : Run M
-  pub does : DoesOne stands setup.program request old middle
+  pub does : DoesOne stands (path_for setup.program request) request old middle
   pub follows : MayFollow stands setup request middle new
 
 -- what a request comes to: nothing, or it is done

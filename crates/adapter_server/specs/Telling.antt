@@ -20,6 +20,7 @@ use Rattle.adapter_server.specs.declared.connection.Connection.{Connection}
 use Rattle.adapter_server.specs.Events.{events_at_beginning, events_behind, events_on_entry}
 use Rattle.adapter_server.specs.Sending.{Sends, given, number_behind}
 use Rattle.adapter_server.specs.Serving.{AsksHere, Run, Setup}
+use Rattle.adapter_server.specs.Spelling.{path_for}
 use Rattle.adapter_server.specs.Threads.{IsToldAside}
 
 -- ---- a request
@@ -35,12 +36,13 @@ pub record SendsReply {R O : Type 0} (contents : O → Option Bytes) (before aft
   pub sent : SendsText contents before after (message before.next)
   pub next : after.next ≡ number_behind before.next
   pub stopped : after.stopped ≡ before.stopped
+  pub hears : after.hears_changes ≡ before.hears_changes
 
 -- a request was done, and the events behind it were sent
 pub record TellsOne {M R O : Type 0} (stands : M → Setting → Debugger → Type 0) (contents : O → Option Bytes) (seen : Threads) (program : Bytes) (asked : Request) (before after : Connection R O) (old new : Run M) : Type 0 where
   pub answered : Answered
   pub does : (s : Setting) (d : Debugger) → StandsFor stands old.session s d → DoesRequest stands s program asked d old.terms answered new.session new.terms
-  pub sends : (s : Setting) (d : Debugger) → StandsFor stands new.session s d → Sends contents before after (events_behind seen s d asked before.stopped answered)
+  pub sends : (s : Setting) (d : Debugger) → StandsFor stands new.session s d → Sends contents before after (events_behind seen before.hears_changes s d asked before.stopped answered)
 
 -- ---- where a run begins
 
@@ -83,7 +85,7 @@ pub record TellsAnswer {M R O : Type 0} (stands : M → Setting → Debugger →
   pub told : Connection R O
   pub middle : Run M
   pub reply : SendsReply contents before replied message
-  pub one : TellsOne stands contents seen setup.program asked replied told old middle
+  pub one : TellsOne stands contents seen (path_for setup.program asked) asked replied told old middle
   pub begins : MayTellBeginning stands contents seen setup asked told after middle new
 
 -- a restart is not answered yet

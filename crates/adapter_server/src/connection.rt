@@ -6,7 +6,7 @@ ghost use Rattle.opened_texts.specs.Texts.{texts_of};
 
 use adapter_frames::{FrameFault, FrameReader, HeadFault, write_frame};
 use adapter_messages::{
-    Head, event_message, failure_message, output_body, reply_message, stop_body,
+    Head, change_body, event_message, failure_message, output_body, reply_message, stop_body,
 };
 use adapter_requests::{Reply, StopReason};
 use opened_texts::OpenedTexts;
@@ -50,13 +50,15 @@ pub struct Connection<R, O> {
     pub(crate) stopped: StopReason,
     /// The expressions whose values have opened since then.
     pub(crate) opened: OpenedTexts,
+    /// Whether the editor wants to hear that values have changed though the program stood still.
+    pub(crate) hears_changes: bool,
 }
 
 impl<R: Read, O: Write> Connection<R, O> {
     ghost use Rattle.serde_json.specs.Data.{no_members, object};
     ghost use Rattle.serde_json.specs.Written.{has_float};
     ghost use Rattle.adapter_messages.specs.Messages.{event};
-    ghost use Rattle.adapter_messages.specs.Replies.{message_of, output_body, stop_body};
+    ghost use Rattle.adapter_messages.specs.Replies.{change_body, message_of, output_body, stop_body};
     ghost use Rattle.adapter_server.specs.Sending.{SendsOne, given, message_bytes, number_behind};
     ghost use Rattle.adapter_server.specs.Serving.{LetsGo, Reads, ReadsJson, messages_of, unread};
     ghost use Rattle.adapter_server.specs.Telling.{SendsReply, SendsText};
@@ -73,6 +75,7 @@ impl<R: Read, O: Write> Connection<R, O> {
             restart: 0,
             stopped: StopReason::Entry,
             opened: OpenedTexts::new(),
+            hears_changes: false,
         }
     }
 
@@ -185,6 +188,16 @@ impl<R: Read, O: Write> Connection<R, O> {
         self.stopped = reason;
         self.opened.clear();
         Ok(())
+    }
+
+    /// Tells that values have changed though the program stands still.
+    pub(crate) fn tell_change(&mut self) -> Result<(), Ended>
+        ensures sent { OnOk result (SendsOne O.contents self.old self.new (λ number. event number (codes "invalidated") change_body)) }
+        ensures stopped { self.new.stopped ≡ self.old.stopped }
+        ensures messages { messages_of self.new ≡ messages_of self.old }
+    {
+        let body = change_body(self.alloc)?;
+        self.tell_with("invalidated", body)
     }
 
     /// Puts a text on the editor's console.

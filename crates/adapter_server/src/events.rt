@@ -4,7 +4,7 @@ ghost use Rattle.gang_model.specs.Debugger.Debugger as model;
 ghost use Rattle.gang_model.specs.Debugger.Debugger.{Debugger, Setting};
 ghost use Rattle.gang_model.specs.Texts.Text.{text};
 ghost use Rattle.debug_answers.specs.Meanings.{Means};
-ghost use Rattle.debug_session.specs.Sessions.{StandsFor};
+ghost use Rattle.debug_session.specs.Sessions.{StandsFor, bare};
 ghost use Rattle.log_points.specs.Points.{written_of};
 ghost use Rattle.adapter_replies.specs.Meanings.{told_text};
 ghost use Rattle.adapter_replies.specs.Stopped.{stop_view};
@@ -12,6 +12,7 @@ ghost use Rattle.adapter_server.specs.Events as spec;
 ghost use Rattle.adapter_server.specs.Events.{event_view};
 ghost use Rattle.adapter_server.specs.Threads.{threads_of};
 
+use crate::effects::{asks_to_end, asks_to_set};
 use crate::threads::thread_of;
 use crate::writing::console_lines;
 use adapter_replies::{answer_text, no_value_text, stop_behind};
@@ -20,7 +21,7 @@ use adapter_session::{Answered, Beginning};
 use conditional_stops::{CountedStop, Verdict};
 use debug_answers::Answer;
 use debug_session::Session;
-use debug_traits::RecordedMachine;
+use debug_traits::{FramedMachine, RecordedMachine};
 use log_points::Written;
 use std::alloc::{AllocError, Global};
 
@@ -35,22 +36,33 @@ pub(crate) enum Event {
         thread: u64,
         text: String,
     },
-    /// The program has ended.
+    /// Values have changed though the program stood still.
+    Change,
+    /// The program has ended, or the editor's user has.
     End,
 }
 
+/// What was told before, and what the editor wants to be told.
+#[derive(Clone, Copy)]
+pub(crate) struct Told {
+    /// Why the program stood still when the editor was last told so.
+    pub(crate) last: StopReason,
+    /// Whether the editor wants to hear that values have changed though the program stood still.
+    pub(crate) hears_changes: bool,
+}
+
 /// What is told behind the reply to a request, where the last stop was for a reason: the texts that breakpoints wrote, why a condition
-/// has no value, and a stop, or the end.
-pub(crate) fn events_behind<M: RecordedMachine>(
+/// has no value, and a stop, a change, where the editor hears of those, or the end.
+pub(crate) fn events_behind<M: FramedMachine>(
     alloc: Global,
     launch: &Launch<'_>,
     session: &Session<M>,
-    last: StopReason,
+    told: Told,
     request: &Request<'_>,
     answered: &Answered,
 ) -> Result<Vec<Event>, AllocError>
     ensures { (s : Setting) (d : Debugger) → StandsFor M.stands session.now s d
-        → IfOk result (λ events. map event_view events.items ≡ spec.events_behind (threads_of launch.now) s d request.now last answered.now) }
+        → IfOk result (λ events. map event_view events.items ≡ spec.events_behind (threads_of launch.now) told.hears_changes s d request.now told.last answered.now) }
 {
     let mut events = written_events(alloc, &answered.written)?;
     put_verdict(alloc, &answered.verdict, &mut events)?;
@@ -58,12 +70,12 @@ pub(crate) fn events_behind<M: RecordedMachine>(
         alloc,
         launch,
         session,
-        last,
+        told,
         request,
         &answered.reply,
         &mut events,
     )?;
-    put_end(request, &mut events)?;
+    put_end(session, request, &mut events)?;
     Ok(events)
 }
 
@@ -134,18 +146,18 @@ fn put_verdict(
     }
 }
 
-/// Puts behind others what a reply leads to: the end, or the stop that an editor is told of behind it.
+/// Puts behind others what a reply leads to: the end, or the stop that an editor is told of behind it, and a change.
 fn put_reply<M: RecordedMachine>(
     alloc: Global,
     launch: &Launch<'_>,
     session: &Session<M>,
-    last: StopReason,
+    told: Told,
     request: &Request<'_>,
     reply: &Reply,
     events: &mut Vec<Event>,
 ) -> Result<(), AllocError>
     ensures { (s : Setting) (d : Debugger) → StandsFor M.stands session.now s d
-        → OnOk result (map event_view events.new.items ≡ map event_view events.old.items ++ spec.reply_events (threads_of launch.now) s d request.now last reply.now) }
+        → OnOk result (map event_view events.new.items ≡ map event_view events.old.items ++ spec.reply_events (threads_of launch.now) told.hears_changes s d request.now told.last reply.now) }
 {
     match reply {
         Reply::Ended => {
@@ -153,10 +165,37 @@ fn put_reply<M: RecordedMachine>(
             Ok(())
         }
         _ => {
-            let stop = stop_behind(request, reply, last);
-            put_stop(alloc, launch, session, stop, events)
+            let stop = stop_behind(request, reply, told.last);
+            put_stop(alloc, launch, session, stop, events)?;
+            put_change(told.hears_changes, request, reply, events)?;
+            Ok(())
         }
     }
+}
+
+/// Puts a change behind others, where an editor hears of those and a value was set.
+fn put_change(
+    hears_changes: bool,
+    request: &Request<'_>,
+    reply: &Reply,
+    events: &mut Vec<Event>,
+) -> Result<(), AllocError>
+    ensures { OnOk result (map event_view events.new.items ≡ map event_view events.old.items ++ spec.change_events hears_changes request.now reply.now) }
+{
+    if hears_changes && asks_to_set(request) && tells_value(reply) {
+        events.push(Event::Change)?;
+    }
+    Ok(())
+}
+
+/// Whether a reply tells a value, and no move.
+fn tells_value(reply: &Reply) -> bool
+    ensures { result ≡ spec.tells_value reply.now }
+{
+    matches!(
+        reply,
+        Reply::Set { .. } | Reply::Evaluated { reason: None, .. }
+    )
 }
 
 /// Puts a stop behind others, if there is one.
@@ -184,16 +223,18 @@ fn put_stop<M: RecordedMachine>(
 }
 
 /// Puts the end behind others, where a request asks for it.
-fn put_end(request: &Request<'_>, events: &mut Vec<Event>) -> Result<(), AllocError>
-    ensures { OnOk result (map event_view events.new.items ≡ map event_view events.old.items ++ spec.request_events request.now) }
+fn put_end<M: FramedMachine>(
+    session: &Session<M>,
+    request: &Request<'_>,
+    events: &mut Vec<Event>,
+) -> Result<(), AllocError>
+    ensures { (s : Setting) (d : Debugger) → StandsFor M.stands session.now s d
+        → OnOk result (map event_view events.new.items ≡ map event_view events.old.items ++ spec.request_events s (bare d) request.now) }
 {
-    match request {
-        Request::Terminate => {
-            events.push(Event::End)?;
-            Ok(())
-        }
-        _ => Ok(()),
+    if asks_to_end(session.machine(), request) {
+        events.push(Event::End)?;
     }
+    Ok(())
 }
 
 /// Puts behind others the stop at a breakpoint that counts where a run begins, if one does, and before it why its condition has no

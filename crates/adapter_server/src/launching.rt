@@ -106,7 +106,10 @@ impl<R: Read, O: Write> Connection<R, O> {
     ) -> Result<Before, Ended> {
         match request {
             Request::Launch(_) => return Ok(Before::Launches),
-            Request::Initialize => self.reply(head, "", &Reply::Capabilities)?,
+            Request::Initialize { hears_invalidated } => {
+                self.hears_changes = *hears_invalidated;
+                self.reply(head, "", &Reply::Capabilities)?;
+            }
             Request::Disconnect => {
                 self.reply(head, "", &Reply::Done)?;
                 return Ok(Before::Disconnects);

@@ -2,10 +2,12 @@
 #![tactic(auto)]
 
 mod connection;
+mod effects;
 mod events;
 mod launching;
 mod opening;
 mod serving;
+mod spelling;
 mod telling;
 mod threads;
 mod writing;

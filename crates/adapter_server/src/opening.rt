@@ -1,5 +1,5 @@
 //! Expressions whose values an editor opens into their lanes.
-ghost use Rattle.std.specs.Prelude.{◌≡◌, ◌<◌, IfOk, IfSome, OnErr, option_map};
+ghost use Rattle.std.specs.Prelude.{◌≡◌, ◌<◌, Bool, IfOk, IfSome, OnErr, option_map};
 ghost use Rattle.gang_model.specs.Debugger.Debugger.{Debugger, Setting};
 ghost use Rattle.debug_session.specs.Sessions.{StandsFor, bare};
 ghost use Rattle.opened_texts.specs.Texts.{texts_of};
@@ -35,8 +35,8 @@ pub(crate) fn open_answer<M: ExpressionMachine>(
         → MayOpen s (bare d) request.now answered.reply (texts_of texts.old) result.reply (texts_of texts.new) }
     ensures verdict { result.verdict ≡ answered.verdict }
     ensures written { result.written ≡ answered.written }
-    ensures events { (seen : Threads) (s : Setting) (d : Debugger) (last : StopReason)
-        → events_behind seen s d request.now last result ≡ events_behind seen s d request.now last answered }
+    ensures events { (seen : Threads) (hears : Bool) (s : Setting) (d : Debugger) (last : StopReason)
+        → events_behind seen hears s d request.now last result ≡ events_behind seen hears s d request.now last answered }
 {
     let Answered {
         reply,
@@ -61,8 +61,8 @@ fn open_reply<M: ExpressionMachine>(
 ) -> Reply
     ensures reply { (s : Setting) (d : Debugger) → StandsFor M.stands session.now s d
         → MayOpen s (bare d) request.now reply (texts_of texts.old) result (texts_of texts.new) }
-    ensures events { (seen : Threads) (s : Setting) (d : Debugger) (last : StopReason)
-        → reply_events seen s d request.now last result ≡ reply_events seen s d request.now last reply }
+    ensures events { (seen : Threads) (hears : Bool) (s : Setting) (d : Debugger) (last : StopReason)
+        → reply_events seen hears s d request.now last result ≡ reply_events seen hears s d request.now last reply }
 {
     match note_opened(alloc, session, request, texts, &reply) {
         Ok(place) => with_place(reply, place),

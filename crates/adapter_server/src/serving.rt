@@ -9,13 +9,15 @@ ghost use Rattle.adapter_session.specs.Terms.{terms_of};
 ghost use Rattle.adapter_server.specs.Events.{events_at_beginning, events_behind, events_on_entry};
 ghost use Rattle.adapter_server.specs.Sending.{Sends};
 ghost use Rattle.adapter_server.specs.Serving.{Answers, Asks, Begins, DoesOne, Follows, HasBegun, MayDo, Serves, ServesAnew, messages_of, run_of, setup_by, setup_of, unread};
+ghost use Rattle.adapter_server.specs.Spelling.{path_for};
 ghost use Rattle.adapter_server.specs.Telling.{Tells, TellsBeginning, TellsOne};
 ghost use Rattle.adapter_server.specs.Threads.{threads_of};
 
 use crate::connection::{Connection, Ended};
-use crate::events::{events_at_beginning, events_behind, events_on_entry};
+use crate::events::{Told, events_at_beginning, events_behind, events_on_entry};
 use crate::launching::LaunchMessage;
 use crate::opening::open_answer;
+use crate::spelling::path_for;
 use crate::threads::told_aside;
 use adapter_messages::{Head, read_head, read_request};
 use adapter_requests::{Launch, Reply, Request};
@@ -217,10 +219,14 @@ impl<R: Read, O: Write> Connection<R, O> {
         answered: &Answered,
     ) -> Result<(), Ended>
         ensures told { (s : Setting) (d : Debugger) → StandsFor M.stands session.now s d
-            → OnOk result (Sends O.contents self.old self.new (events_behind (threads_of launch.now) s d request.now self.old.stopped answered.now)) }
+            → OnOk result (Sends O.contents self.old self.new (events_behind (threads_of launch.now) self.old.hears_changes s d request.now self.old.stopped answered.now)) }
         ensures messages { messages_of self.new ≡ messages_of self.old }
     {
-        let events = events_behind(self.alloc, launch, session, self.stopped, request, answered)?;
+        let told = Told {
+            last: self.stopped,
+            hears_changes: self.hears_changes,
+        };
+        let events = events_behind(self.alloc, launch, session, told, request, answered)?;
         self.tell_events(events.as_slice())
     }
 
@@ -302,7 +308,7 @@ impl<R: Read, O: Write> Connection<R, O> {
     }
 }
 
-/// Does a request.
+/// Does a request, which knows the program by the path of its source, where this is the program's.
 fn ask<M: ExpressionMachine>(
     alloc: Global,
     program: &str,
@@ -310,9 +316,10 @@ fn ask<M: ExpressionMachine>(
     session: &mut Session<M>,
     request: &Request<'_>,
 ) -> Result<Answered, AllocError>
-    ensures asked { Asks M.stands program.now request.now (run_of session.old terms.old) (run_of session.new terms.new) result }
+    ensures asked { Asks M.stands (path_for program.now request.now) request.now (run_of session.old terms.old) (run_of session.new terms.new) result }
     ensures done { (s : Setting) (d : Debugger) → StandsFor M.stands session.old s d
-        → IfOk result (λ answered. DoesRequest M.stands s program.now request.now d (terms_of terms.old) answered session.new (terms_of terms.new)) }
+        → IfOk result (λ answered. DoesRequest M.stands s (path_for program.now request.now) request.now d (terms_of terms.old) answered session.new (terms_of terms.new)) }
 {
-    answer_request(alloc, program, terms, session, request)
+    let path = path_for(alloc, program, request)?;
+    answer_request(alloc, path, terms, session, request)
 }

@@ -34,6 +34,7 @@ impl<R: Read, O: Write> Connection<R, O> {
                 thread,
                 text,
             } => self.tell_stop(*reason, *thread, text.as_str()),
+            Event::Change => self.tell_change(),
             Event::End => self.tell("terminated"),
         }
     }

@@ -1,5 +1,6 @@
 use Rattle.std.proofs.Common.{◌∙◌, inl, inr, refl}
 use Rattle.adapter_server.specs.Serving.{run_of, setup_by}
+use Rattle.adapter_server.specs.Spelling.{path_for}
 use Rattle.adapter_server.specs.Threads.{threads_of}
 use Rattle.adapter_server.proofs.ServedRequests.{follows_asking, follows_beginning}
 use Rattle.adapter_server.proofs.ToldEvents.{replied_same, sent_same}
@@ -26,8 +27,8 @@ returns-in-ConfigurationDone-clause-told g c =
       one = record {
         answered = c.in_ok-answered.answered;
         does = c.in_ok-answered.ensures.done;
-        sends = sent_same g.M.RecordedMachine.stands g.O.Write.contents (threads_of c.args.launch.now) c.args.launch.now.program.now c.args.request.now c.reply-2.new.self c.tell_of.new.self
-            (run_of c.ask.new.session c.ask.new.terms) c.open_answer-told.result c.in_ok-answered.answered (λ s d. c.open_answer-told.ensures.events (threads_of c.args.launch.now) s d c.reply-2.new.self.stopped) c.in_ok-tell_of.ensures.told;
+        sends = sent_same g.M.RecordedMachine.stands g.O.Write.contents (threads_of c.args.launch.now) (path_for c.args.launch.now.program.now c.args.request.now) c.args.request.now c.reply-2.new.self c.tell_of.new.self
+            (run_of c.ask.new.session c.ask.new.terms) c.open_answer-told.result c.in_ok-answered.answered (λ s d. c.open_answer-told.ensures.events (threads_of c.args.launch.now) c.reply-2.new.self.hears_changes s d c.reply-2.new.self.stopped) c.in_ok-tell_of.ensures.told;
       };
       begins = inr (c.in-ConfigurationDone.is, c.in_ok-begin-in-ConfigurationDone.ensures.told);
     }))
@@ -64,8 +65,8 @@ returns-in-Disconnect-clause-told g c =
       one = record {
         answered = c.in_ok-answered.answered;
         does = c.in_ok-answered.ensures.done;
-        sends = sent_same g.M.RecordedMachine.stands g.O.Write.contents (threads_of c.args.launch.now) c.args.launch.now.program.now c.args.request.now c.reply-2.new.self c.tell_of.new.self
-            (run_of c.ask.new.session c.ask.new.terms) c.open_answer-told.result c.in_ok-answered.answered (λ s d. c.open_answer-told.ensures.events (threads_of c.args.launch.now) s d c.reply-2.new.self.stopped) c.in_ok-tell_of.ensures.told;
+        sends = sent_same g.M.RecordedMachine.stands g.O.Write.contents (threads_of c.args.launch.now) (path_for c.args.launch.now.program.now c.args.request.now) c.args.request.now c.reply-2.new.self c.tell_of.new.self
+            (run_of c.ask.new.session c.ask.new.terms) c.open_answer-told.result c.in_ok-answered.answered (λ s d. c.open_answer-told.ensures.events (threads_of c.args.launch.now) c.reply-2.new.self.hears_changes s d c.reply-2.new.self.stopped) c.in_ok-tell_of.ensures.told;
       };
       begins = inl (λ is. cc, refl, refl);
     }))
@@ -88,8 +89,8 @@ returns-clause-told g c =
       one = record {
         answered = c.in_ok-answered.answered;
         does = c.in_ok-answered.ensures.done;
-        sends = sent_same g.M.RecordedMachine.stands g.O.Write.contents (threads_of c.args.launch.now) c.args.launch.now.program.now c.args.request.now c.reply-2.new.self c.tell_of.new.self
-            (run_of c.ask.new.session c.ask.new.terms) c.open_answer-told.result c.in_ok-answered.answered (λ s d. c.open_answer-told.ensures.events (threads_of c.args.launch.now) s d c.reply-2.new.self.stopped) c.in_ok-tell_of.ensures.told;
+        sends = sent_same g.M.RecordedMachine.stands g.O.Write.contents (threads_of c.args.launch.now) (path_for c.args.launch.now.program.now c.args.request.now) c.args.request.now c.reply-2.new.self c.tell_of.new.self
+            (run_of c.ask.new.session c.ask.new.terms) c.open_answer-told.result c.in_ok-answered.answered (λ s d. c.open_answer-told.ensures.events (threads_of c.args.launch.now) c.reply-2.new.self.hears_changes s d c.reply-2.new.self.stopped) c.in_ok-tell_of.ensures.told;
       };
       begins = inl (c.in_default-request.not-ConfigurationDone, refl, refl);
     }))

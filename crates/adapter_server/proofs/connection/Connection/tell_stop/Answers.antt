@@ -10,4 +10,4 @@ returns-clause-sent g c =
     let text = c.args.text.now in
     let made = c.in_ok-tell_with.ensures.sent (ap has_float c.in_ok-body.ensures ∙ stop_plain c.args.reason c.args.thread text) in
     let sent = subst (λ body. SendsOne g.O.Write.contents c.args.self.now c.tell_with.new.self (λ number. event number (codes "stopped") body)) c.in_ok-body.ensures made in
-    record { bytes = sent.bytes; next = sent.next }
+    record { bytes = sent.bytes; next = sent.next; hears = sent.hears }
