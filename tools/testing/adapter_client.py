@@ -15,6 +15,7 @@ from .adapter_members import (
     EVENTS, MEMBERS, NUMBER, QUIET, TEXT, THREAD, TRUTH, VARIABLE, Wrong, need, need_body, need_capabilities, need_members, need_stop, same,
 )
 from .adapter_before import BEFORE_CHECKS
+from .adapter_changes import CHANGE_CHECKS
 from .adapter_children import CHILD_CHECKS
 from .adapter_conditions import CONDITION_CHECKS
 from .adapter_formats import FORMAT_CHECKS
@@ -139,7 +140,8 @@ class Client:
         need(not message["success"] and "message" in message, f"{command} is not refused: {message}")
         need_members("the body of a refusal", message.get("body"), {"error": MEMBERS}, {})
         error = message["body"]["error"]
-        need_members("the error", error, {"id": NUMBER, "format": TEXT, "variables": MEMBERS, "showUser": TRUTH}, {})
+        has_brace = any(it in message["message"] for it in "{}")
+        need_members("the error", error, {"id": NUMBER, "format": TEXT, "showUser": TRUTH, **({"variables": MEMBERS} if has_brace else {})}, {})
         text = VARIABLE.sub(lambda it: error["variables"][it[1]], error["format"])
         need(text == message["message"], f"two texts: {message}")
         need(error["showUser"] == (command not in QUIET), f"whether the user is shown why {command} is refused: {message}")
@@ -462,7 +464,7 @@ def wrong_requests(client, examples):
     client.end()
 
 
-CHECKS = [steps_and_back, watches, breaks, locations, variables, frames, faults, filters, the_end, wrong_requests, *FRAME_CHECKS, *LANE_CHECKS, *LAUNCH_CHECKS, *LOG_CHECKS, *VALUE_CHECKS, *TARGET_CHECKS, *CHILD_CHECKS, *FORMAT_CHECKS, *MOVE_CHECKS, *CONDITION_CHECKS, *FUNCTION_CHECKS, *RESTART_CHECKS, *WATCHED_CHECKS, *PROGRAM_CHECKS, *WORD_CHECKS, *HINT_CHECKS, *BEFORE_CHECKS]
+CHECKS = [steps_and_back, watches, breaks, locations, variables, frames, faults, filters, the_end, wrong_requests, *FRAME_CHECKS, *LANE_CHECKS, *LAUNCH_CHECKS, *LOG_CHECKS, *VALUE_CHECKS, *TARGET_CHECKS, *CHILD_CHECKS, *CHANGE_CHECKS, *FORMAT_CHECKS, *MOVE_CHECKS, *CONDITION_CHECKS, *FUNCTION_CHECKS, *RESTART_CHECKS, *WATCHED_CHECKS, *PROGRAM_CHECKS, *WORD_CHECKS, *HINT_CHECKS, *BEFORE_CHECKS]
 
 
 def check(root, command):

@@ -157,7 +157,7 @@ class Told:
         at = self.meant.depth() if which == "File" else depth
         target = part[-1] if part else name
         try:
-            wanted = (self.meant.set(at, target, value, is_hexadecimal),)
+            wanted = self.meant.set(at, target, value, is_hexadecimal), None if part or not has_parts else self.meant.parts(at, name, is_hexadecimal)
         except Refused as refused:
             wanted = refusal_text(refused)
         self.note("set", wanted, at, which, name, part[0] if part else None, target, value, is_hexadecimal, self.is_in(40))
@@ -230,11 +230,19 @@ class Client:
         else:
             at = child(client, depth, which, name) if shown else reference(client, depth, which)
             said = client.answer("setVariable", {"variablesReference": at, "name": shown or name, "value": value, **form(is_hexadecimal)})
-        return (said["body"]["value"],) if said["success"] else said["message"]
+        if not said["success"]:
+            return said["message"]
+        opens = said["body"]["variablesReference"]
+        return said["body"]["value"], [part(it) for it in listed(client, opens, is_hexadecimal)] if opens else None
+
+
+# Spellings of a count.
+COUNTS = (lambda count: f"{count}", lambda count: f">={count}", lambda count: f">{count - 1}", lambda count: f" >= {count} ", lambda count: f"> {count - 1}")
 
 
 def terms(condition, count):
-    return ({"condition": condition} if condition else {}) | ({"hitCondition": str(count)} if count else {})
+    spelled = COUNTS[(len(condition or "") + count) % len(COUNTS)]
+    return ({"condition": condition} if condition else {}) | ({"hitCondition": spelled(count)} if count else {})
 
 
 def form(is_hexadecimal):

@@ -22,8 +22,8 @@ BODIES = {
     "stackTrace": ({"stackFrames": LIST}, {"totalFrames": NUMBER}),
     "scopes": ({"scopes": LIST}, {}),
     "variables": ({"variables": LIST}, {}),
-    "setVariable": ({"value": TEXT}, {}),
-    "setExpression": ({"value": TEXT}, {}),
+    "setVariable": ({"value": TEXT, "variablesReference": NUMBER}, {}),
+    "setExpression": ({"value": TEXT, "variablesReference": NUMBER}, {}),
     "completions": ({"targets": LIST}, {}),
     "evaluate": ({"result": TEXT, "variablesReference": NUMBER}, {}),
     "next": ({}, {}),
@@ -60,6 +60,7 @@ CAPABILITIES = [
 EVENTS = {
     "initialized": ({}, {}),
     "terminated": ({}, {}),
+    "invalidated": ({"areas": LIST}, {}),
     "output": ({"category": TEXT, "output": TEXT}, {}),
     "stopped": (
         {"reason": TEXT, "description": TEXT, "text": TEXT, "threadId": NUMBER, "allThreadsStopped": TRUTH},
@@ -232,7 +233,7 @@ def need_body(command, arguments, body):
         need_target(body)
     if command == "exceptionInfo":
         need_exception(body)
-    if command == "evaluate":
+    if command in ("evaluate", "setVariable", "setExpression"):
         need_reference("an answer", body["variablesReference"], 0)
     if command == "stackTrace":
         start, levels, total = arguments.get("startFrame") or 0, arguments.get("levels") or 0, body["totalFrames"]

@@ -23,7 +23,7 @@ WIDTHS = (4, 8, 16)
 FAULT = "export void go() {\n    int x = 6 / (2 - programIndex);\n    assert(x > 7);\n}\n"
 ARRAYS_INPUT = f"table = {row(TABLE)}\neven = {row(EVEN)}\na = {row(GIVEN)}\ncount = 1001\n"
 # The events that the adapter has, and requests that it refuses where an argument is wrong.
-ADAPTER_EVENTS = ("initialized", "stopped", "terminated", "output")
+ADAPTER_EVENTS = ("initialized", "stopped", "terminated", "invalidated", "output")
 REFUSABLE = (
     "launch", "breakpointLocations", "gotoTargets", "goto", "exceptionInfo", "dataBreakpointInfo", "stackTrace", "scopes", "variables", "setVariable",
     "setExpression", "completions", "evaluate", "stepBack", "reverseContinue", "pause",
@@ -126,7 +126,7 @@ class Session:
         return self.draw.randrange(self.given["lines"] + 3)
 
     def breakpoint(self):
-        more = self.draw.choice([{}, {}, {}, {"condition": self.expression()}, {"hitCondition": "2"}, {"logMessage": "at {x}"}, {"column": 1}])
+        more = self.draw.choice([{}, {}, {}, {"condition": self.expression()}, {"hitCondition": self.draw.choice(("2", ">= 2", ">1", "== 2"))}, {"logMessage": "at {x}"}, {"column": 1}])
         return {"line": self.line(), **more}
 
     def terms(self):
@@ -219,7 +219,8 @@ class Session:
         return self.answered(number)
 
     def run(self):
-        self.send("initialize", {"adapterID": "rinddecade", "linesStartAt1": True, "columnsStartAt1": True})
+        hears = self.draw.choice([{}, {"supportsInvalidatedEvent": self.draw.choice((True, True, False))}])
+        self.send("initialize", {"adapterID": "rinddecade", "linesStartAt1": True, "columnsStartAt1": True, **hears})
         for _ in range(self.draw.choice((0, 0, 1))):
             self.send(*self.request())
         for arguments in ([self.spoiled(self.launch())] if self.draw.random() < 0.2 else []) + [self.launch()]:

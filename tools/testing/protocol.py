@@ -9,6 +9,8 @@ from .protocol_types import EVENT, EVENTS, REFUSAL, RESPONSE, RESPONSES, SCALARS
 # What is answered before the program moves, and what tells that it stands still again.
 MOVES = ("next", "stepIn", "stepOut", "stepBack", "continue", "reverseContinue", "goto", "restart", "configurationDone")
 STANDS = ("stopped", "terminated")
+# Behind whose response values may have changed though the program stands still.
+SETS = ("setVariable", "setExpression", "evaluate")
 # Behind whose response the program may be told to stand: `evaluate` where it does a line of the console, and `terminate`.
 MOVES_OR_LINES = (*MOVES, "evaluate", "terminate")
 # Of which requests each entry of a list is answered.
@@ -101,9 +103,12 @@ class Dialogue:
         self.is_moving = False  # a move has been answered, and where it came to is not told yet
         self.stands = False  # where it stands has been told since the last response
         self.frames, self.references, self.elements = set(), set(), {}
+        self.hears, self.can_change = False, False  # whether the editor asks to hear of changes, and whether there may be one behind the last response
 
     def sent(self, request):
         self.asked[request["seq"]] = request
+        if request["command"] == "initialize" and isinstance(request.get("arguments"), dict) and self.last == "":
+            self.hears = request["arguments"].get("supportsInvalidatedEvent") is True
 
     def told(self, message):
         """What is wrong with the next message."""
@@ -124,8 +129,13 @@ class Dialogue:
         name, command = message["event"], self.last
         if name == "initialized" and command not in ("launch", "initialize"):
             return [f"initialized behind {command}"]
+        if name == "invalidated":
+            found = [] if self.hears and self.can_change else [f"{name} behind {command}" if self.hears else f"{name}, which was not asked for"]
+            self.can_change = False
+            return found
         if name not in STANDS:
             return []
+        self.can_change = False
         self.frames, self.references, self.elements = set(), set(), {}
         found = [] if command in MOVES_OR_LINES else [f"{name} behind {command}"]
         found += [f"{name} a second time behind {command}"] if self.stands else []
@@ -140,6 +150,7 @@ class Dialogue:
             return [f"the response to {command} answers a request {request['command']}"]
         found = [f"{self.last} is not told to stand before {command} is answered"] if self.is_moving else []
         self.last, self.stands = command, False
+        self.can_change = message["success"] and command in SETS
         self.is_moving = message["success"] and command in MOVES
         arguments = request.get("arguments")
         arguments = arguments if isinstance(arguments, dict) else {}

@@ -26,7 +26,7 @@ OPTIONAL = {it for it in NEEDED if it[0] in ("initialize", "refused")}
 # Members whose words the protocol lists.
 WORDED = {
     ("exceptionInfo", "breakMode"), ("scopes", "scopes.presentationHint"), ("variables", "variables.presentationHint.attributes"),
-    ("dataBreakpointInfo", "accessTypes"), ("stopped", "reason"), ("output", "category"),
+    ("dataBreakpointInfo", "accessTypes"), ("stopped", "reason"), ("output", "category"), ("invalidated", "areas"),
 }
 # Values of other types than one of a type.
 OTHERS = {
