@@ -1,15 +1,16 @@
 -- Rows that the check computes from the definitions: two texts were written, and a third is left out; stops and changes that are told; what lines do; the bytes of events;
 -- two texts open, and no third one.
-use Rattle.std.proofs.Common.{◌≡◌, refl, ℕ, true, false, List, [], ◌∷◌, ◌++◌, codes, Some, None}
+use Rattle.std.proofs.Common.{◌≡◌, refl, ap, if◌then◌else◌, ℕ, true, false, List, [], ◌∷◌, ◌++◌, codes, Some, None}
 use Rattle.std.specs.Fmt.{digits}
 use Rattle.serde_json.proofs.OnLiterals.{serde_json_on_literals}
 use Rattle.adapter_requests.specs.declared.reply.StopReason.TheVariants as reason
 use Rattle.std.specs.Borrow.{Bor}
+use Rattle.adapter_requests.specs.declared.reply.Reply.{Reply}
 use Rattle.adapter_requests.specs.declared.reply.Reply.TheVariants as reply
 use Rattle.adapter_requests.specs.declared.request.Request.TheVariants as request
 use Rattle.adapter_server.specs.declared.effects.Effect.TheVariants as effect
 use Rattle.adapter_server.specs.Effects.{line_effect}
-use Rattle.adapter_server.specs.Events.{Says, Stops, Changes, Ends, change_events, last_stop}
+use Rattle.adapter_server.specs.Events.{Says, Stops, Changes, Ends, change_events, last_stop, tells_value}
 use Rattle.adapter_server.specs.Opening.{text_at}
 use Rattle.adapter_server.specs.Sending.{events_bytes}
 use Rattle.adapter_server.specs.Writing.{console_line, console_lines}
@@ -30,15 +31,18 @@ the_last_of_two = refl
 no_stop : last_stop reason.Entry (Says [] ∷ Ends ∷ []) ≡ reason.Entry
 no_stop = refl
 
--- a value that is set, of which an editor hears or does not; and none that is refused
-heard : (reference : ℕ) (name value : Bor (List ℕ)) (text : String) → change_events true (request.SetVariable reference name value false) (reply.Set text 0) ≡ Changes ∷ []
-heard reference name value text = refl
+-- a value that is set, of which an editor hears or does not; one that is not told; and a move
+heard : (reference : ℕ) (name value : Bor (List ℕ)) (told : Reply) → tells_value told ≡ true → change_events true (request.SetVariable reference name value false) told ≡ Changes ∷ []
+heard reference name value told is = ap (λ tells. if tells then Changes ∷ [] else []) is
 
-not_heard : (reference : ℕ) (name value : Bor (List ℕ)) (text : String) → change_events false (request.SetVariable reference name value false) (reply.Set text 0) ≡ []
-not_heard reference name value text = refl
+not_heard : (reference : ℕ) (name value : Bor (List ℕ)) (told : Reply) → change_events false (request.SetVariable reference name value false) told ≡ []
+not_heard reference name value told = refl
 
-refused : (reference : ℕ) (name value : Bor (List ℕ)) (text : String) → change_events true (request.SetVariable reference name value false) (reply.Refused text) ≡ []
-refused reference name value text = refl
+nothing_set : (reference : ℕ) (name value : Bor (List ℕ)) → change_events true (request.SetVariable reference name value false) reply.OutOfMemory ≡ []
+nothing_set reference name value = refl
+
+behind_a_move : (told : Reply) → change_events true request.Next told ≡ []
+behind_a_move told = refl
 
 -- lines of the console that set a value and that end the session, in the debugger's words and in the prompt's, and one that does neither
 sets_a_value : line_effect (codes "set var x = 3") ≡ effect.Sets

@@ -196,7 +196,7 @@ impl<R: Read, O: Write> Connection<R, O> {
             self.reply(head, launch.program, &reply)?;
             return Ok(Turn::Goes);
         }
-        let answered = ask(self.alloc, launch.program, terms, session, request)?;
+        let answered = ask_for(self.alloc, launch.program, terms, session, request)?;
         let told = open_answer(self.alloc, session, request, &mut self.opened, answered);
         self.reply(head, launch.program, &told.reply)?;
         self.tell_of(launch, session, request, &told)?;
@@ -309,7 +309,7 @@ impl<R: Read, O: Write> Connection<R, O> {
 }
 
 /// Does a request, which knows the program by the path of its source, where this is the program's.
-fn ask<M: ExpressionMachine>(
+fn ask_for<M: ExpressionMachine>(
     alloc: Global,
     program: &str,
     terms: &mut Terms,
@@ -321,5 +321,20 @@ fn ask<M: ExpressionMachine>(
         → IfOk result (λ answered. DoesRequest M.stands s (path_for program.now request.now) request.now d (terms_of terms.old) answered session.new (terms_of terms.new)) }
 {
     let path = path_for(alloc, program, request)?;
-    answer_request(alloc, path, terms, session, request)
+    ask(alloc, path, terms, session, request)
+}
+
+/// Does a request.
+fn ask<M: ExpressionMachine>(
+    alloc: Global,
+    program: &str,
+    terms: &mut Terms,
+    session: &mut Session<M>,
+    request: &Request<'_>,
+) -> Result<Answered, AllocError>
+    ensures asked { Asks M.stands program.now request.now (run_of session.old terms.old) (run_of session.new terms.new) result }
+    ensures done { (s : Setting) (d : Debugger) → StandsFor M.stands session.old s d
+        → IfOk result (λ answered. DoesRequest M.stands s program.now request.now d (terms_of terms.old) answered session.new (terms_of terms.new)) }
+{
+    answer_request(alloc, program, terms, session, request)
 }
