@@ -1,8 +1,9 @@
 """What of a source below it the check of a library reads: names, types and contracts, and no code.
 
 A library's proof rests on the contracts of the functions that it calls. So these are left out: bodies of functions, and whole functions that no
-other crate can name; what a source imports for its bodies alone, and modules that no other crate can name; and comments. A text that is not as
-the formatter lays it out stays as it is, and so does what may be code of other crates: macros, constant functions, and bodies within traits.
+other crate can name; what a source imports for its bodies alone, and modules that no other crate can name; comments, and hints on inlining, which
+are for compilers alone. A text that is not as the formatter lays it out stays as it is, and so does what may be code of other crates: macros,
+constant functions, and bodies within traits.
 """
 
 import re
@@ -16,6 +17,7 @@ IMPORT = re.compile(r"^use ((?:\w+::)*)(?:(\w+(?: as \w+)?)|\{([^{}]*)\});$", re
 MODULE = re.compile(r"\s*mod \w+;")
 COMMENT = re.compile(r"\s*//")
 ATTRIBUTE = re.compile(r"\s*#\[")
+HINT = re.compile(r"\s*#\[inline(\(\w+\))?\]")
 
 
 def interface_of(text, are_cited):
@@ -24,7 +26,7 @@ def interface_of(text, are_cited):
         return text.splitlines()
     lines = without_functions(text.splitlines(), are_cited)
     if not any(has_open_text(it) for it in lines):
-        lines = [it for it in lines if not COMMENT.match(it)]
+        lines = [it for it in lines if not COMMENT.match(it) and not HINT.fullmatch(it)]
     return without_imports([it for it in lines if it.strip() and not MODULE.fullmatch(it)])
 
 

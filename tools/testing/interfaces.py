@@ -25,6 +25,7 @@ pub struct Asked {
 
 impl Asked {
     /// The number.
+    #[inline(always)]
     pub fn number(&self) -> u8
         ensures { result ≡ self.now.number }
     {
