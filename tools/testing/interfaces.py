@@ -114,7 +114,6 @@ impl<T> Steps for Vec<T>
 where
     T: Copy,
 {
-    #[inline]
     fn first(&self) -> u8
         ensures { result ≡ 1 }
     {
