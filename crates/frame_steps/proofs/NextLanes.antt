@@ -1,14 +1,13 @@
--- The least of some numbers, and the lanes that wait for it, number by number.
-use Rattle.std.proofs.Common.{ℕ, ◌+◌, ◌<◌, ◌≤◌, ◌≢◌, ◌⊎◌, true, false, ◌≡◌, sym, ◌∙◌, ap, arith, inl, inr, List, [], ◌∷◌, ◌++◌, length, take, slice_index}
-use Rattle.std.specs.Prelude.{◌==◌, min, slice_set}
-use Rattle.std.proofs.lemmas.Bool.{cases_lt, eq-eqb, ne_eqb}
-use Rattle.std.proofs.lemmas.List.{get_or-set_other, get_or-set_same, take_more}
-use Rattle.gang_types.specs.declared.masks.Mask.{Mask}
+-- The least of some numbers, and the lanes that wait for it.
+use Rattle.std.proofs.Common.{ℕ, ◌+◌, ◌-◌, ◌%◌, ◌^◌, ◌<◌, ◌≤◌, Bool, true, false, cond, ◌≡◌, refl, sym, ◌∙◌, ap, arith, List, [], ◌∷◌, ◌++◌, drop, length, map, take, slice_index, w64}
+use Rattle.std.specs.Prelude.{min, nat_eq, replicate}
+use lib.Lanes.{mask_l, top, zip2}
+use Rattle.std.proofs.lemmas.Bool.{eqb-true}
+use Rattle.std.proofs.lemmas.List.{get_or-map, take_more}
+use Rattle.std.proofs.lemmas.Simd.{bit_mask_l, bitmask_splat}
 use Rattle.gang_types.specs.Lanes.{has}
-use Rattle.gang_types.specs.LaneLaws.{has_past, same_lanes}
-use Rattle.gang_types.specs.Masks.{lanes_of}
-use Rattle.gang_types.specs.MaskLaws.{length-lanes_of_word}
-use Rattle.gang_model.specs.Running.Lanes.{at}
+use Rattle.gang_types.specs.Masks.{lanes_of_word}
+use Rattle.gang_types.specs.MaskLaws.{lanes_of_word_is}
 use Rattle.mask_states.specs.Masked.{least, waiting_for}
 use Rattle.mask_states.proofs.LaneNumbers.{has-waiting_for, length-waiting_for}
 
@@ -20,50 +19,27 @@ least_behind end (y ∷ xs) x = let rest = least_behind end xs x in omega (arith
 pub least_more : (end : ℕ) (xs : List ℕ) (i : ℕ) → i < length xs → least end (take (i + 1) xs) ≡ min (least end (take i xs)) (slice_index xs i)
 least_more end xs i h = ap (least end) (take_more xs i 0 h) ∙ least_behind end (take i xs) (slice_index xs i)
 
--- the lanes found among the first so many numbers
-pub record AreFound (width number : ℕ) (numbers : List ℕ) (upto : ℕ) (lanes : Mask) : Type 0 where
-  pub below : (k : ℕ) → k < upto → has (lanes_of width lanes) k ≡ (at numbers k == number)
-  pub behind : (k : ℕ) → upto ≤ k → has (lanes_of width lanes) k ≡ false
+-- where all numbers are the same, it is the least
+pub least_of_same : (end first : ℕ) (numbers : List ℕ) → 0 < length numbers → first ≤ end → waiting_for first numbers ≡ replicate (length numbers) true → least end numbers ≡ first
+least_of_same end first [] some below same = absurd (omega (arith, some))
+least_of_same end first (n ∷ []) some below same =
+    let is : n ≡ first = eqb-true n first (ap (λ ls. has ls 0) same) in
+    omega (arith, is, below)
+least_of_same end first (n ∷ m ∷ ms) some below same =
+    let is : n ≡ first = eqb-true n first (ap (λ ls. has ls 0) same) in
+    let rest : least end (m ∷ ms) ≡ first = least_of_same end first (m ∷ ms) (omega arith) below (ap (drop 1) same) in
+    omega (arith, is, rest)
 
-module _ (width number : ℕ) (numbers : List ℕ) (i : ℕ) (lanes : Mask) (found : AreFound width number numbers i lanes) where
-  -- one that waits
-  pub found_one : (more : Mask) → i < width → slice_index numbers i ≡ number → lanes_of width more ≡ slice_set (lanes_of width lanes) i true → AreFound width number numbers (i + 1) more
-  found_one more h e set = record {
-    below = λ k less. by_place k (cases_lt k i) less;
-    behind = λ k past.
-        let other : k ≢ i = omega (arith, past) in
-        ap (λ ls. has ls k) set ∙ get_or-set_other (lanes_of width lanes) i k true false other ∙ found.behind k (omega (arith, past));
-  }
-    where
-      by_place : (k : ℕ) → (k < i) ⊎ (i ≤ k) → k < i + 1 → has (lanes_of width more) k ≡ (at numbers k == number)
-      by_place k (inl low) less =
-          let other : k ≢ i = omega (arith, low) in
-          ap (λ ls. has ls k) set ∙ get_or-set_other (lanes_of width lanes) i k true false other ∙ found.below k low
-      by_place k (inr high) less =
-          let same : k ≡ i = omega (arith, high, less) in
-          let inside : i < length (lanes_of width lanes) = omega (arith, h, length-lanes_of_word width lanes.word) in
-          ap (λ n. has (lanes_of width more) n) same ∙ ap (λ ls. has ls i) set ∙ get_or-set_same (lanes_of width lanes) i true false inside
-          ∙ sym (eq-eqb (at numbers i) number e) ∙ ap (λ n. at numbers n == number) (sym same)
+one_is : (b : Bool) → nat_eq (cond b 1 0) 1 ≡ b
+one_is true = refl
+one_is false = refl
 
-  -- one that does not
-  pub found_none : slice_index numbers i ≢ number → AreFound width number numbers (i + 1) lanes
-  found_none e = record {
-    below = λ k less. by_place k (cases_lt k i) less;
-    behind = λ k past. found.behind k (omega (arith, past));
-  }
-    where
-      by_place : (k : ℕ) → (k < i) ⊎ (i ≤ k) → k < i + 1 → has (lanes_of width lanes) k ≡ (at numbers k == number)
-      by_place k (inl low) less = found.below k low
-      by_place k (inr high) less =
-          let same : k ≡ i = omega (arith, high, less) in
-          ap (λ n. has (lanes_of width lanes) n) same ∙ found.behind i (omega arith) ∙ sym (ne_eqb (at numbers i) number e) ∙ ap (λ n. at numbers n == number) (sym same)
-
--- all of them
-pub found_all : (width number : ℕ) (numbers : List ℕ) (lanes : Mask) → length numbers ≡ width → AreFound width number numbers width lanes → lanes_of width lanes ≡ waiting_for number numbers
-found_all width number numbers lanes long found =
-    same_lanes (lanes_of width lanes) (waiting_for number numbers) (length-lanes_of_word width lanes.word ∙ sym long ∙ sym (length-waiting_for number numbers))
-    (λ k. by_place k (cases_lt k width))
-  where
-    by_place : (k : ℕ) → (k < width) ⊎ (width ≤ k) → has (lanes_of width lanes) k ≡ has (waiting_for number numbers) k
-    by_place k (inl below) = found.below k below ∙ sym (has-waiting_for number numbers k (omega (arith, below, long)))
-    by_place k (inr past) = found.behind k past ∙ sym (has_past (waiting_for number numbers) k (omega (arith, past, long, length-waiting_for number numbers)))
+-- the word that a comparison of all lanes makes
+pub equal_lanes : (w number : ℕ) (numbers : List ℕ) → length numbers ≡ w → w ≤ 64
+    → lanes_of_word w (mask_l (map (top 63) (zip2 (λ a b. cond (nat_eq a b) (2 ^ 64 - 1) 0) numbers (replicate w number))) % 2 ^ 64) ≡ waiting_for number numbers
+equal_lanes w number numbers long le =
+    ap (lanes_of_word w) (bitmask_splat w64 (λ a b. nat_eq a b) numbers w number long le)
+    ∙ lanes_of_word_is w (mask_l (map (λ x. nat_eq x number) numbers)) (waiting_for number numbers) (length-waiting_for number numbers ∙ long)
+    (λ k h.
+    ap (λ b. nat_eq b 1) (bit_mask_l (map (λ x. nat_eq x number) numbers) k ∙ ap (λ t. cond t 1 0) (get_or-map (λ x. nat_eq x number) numbers k 0 false (omega (arith, h, long))))
+    ∙ (one_is (nat_eq (slice_index numbers k) number) ∙ sym (has-waiting_for number numbers k (omega (arith, h, long)))))

@@ -13,7 +13,7 @@ ghost use Rattle.frame_steps.specs.Standing.{AreFor, AreSound};
 
 use crate::compiled::CompiledProgram;
 use crate::rounds_left::kept_rounds;
-use crate::waiting::{least, waiting_for};
+use crate::waiting::{least, least_waiting};
 use gang_types::Mask;
 use machine_words::{Head, LevelPart, MachineWords, Region};
 use undo_log::Timeline;
@@ -40,14 +40,12 @@ pub fn frame_step<const W: usize, T: Timeline + Drop>(
 {
     let level = innermost::<W, T>(compiled, words, frame, function);
     let numbers = words.lanes::<W>(Region::Head(frame, Head::Level(level, LevelPart::Numbers)));
-    let step = least(
-        level_end::<W, T>(compiled, words, frame, function, level),
-        &numbers,
-    );
+    let end = level_end::<W, T>(compiled, words, frame, function, level);
+    let (step, lanes) = least_waiting(end, &numbers);
     FrameStep {
         level,
         step: step as usize,
-        lanes: waiting_for(step, &numbers),
+        lanes,
     }
 }
 

@@ -11,17 +11,17 @@ lanes-numbers-requires g c =
     let level = running_level g.T.Timeline.history g.row.W c.args.compiled.now c.args.words.now sound c.args.frame c.args.function c.requires.runs f is c.innermost-level.result (c.innermost-level.ensures f is) in
     (omega (arith, gang_width-le g.row.W sound.lie.gang), (sound.lie.gang, (sound.lie.laid, level.numbered)))
 
-pub level_end-requires-clause-function : goal.level_end-requires-clause-function
-level_end-requires-clause-function g c = running_function g.T.Timeline.history g.row.W c.args.compiled.now c.args.words.now c.requires.sound c.args.frame c.args.function c.requires.runs
+pub level_end-end-requires-clause-function : goal.level_end-end-requires-clause-function
+level_end-end-requires-clause-function g c = running_function g.T.Timeline.history g.row.W c.args.compiled.now c.args.words.now c.requires.sound c.args.frame c.args.function c.requires.runs
 
-pub level_end-requires-clause-level : goal.level_end-requires-clause-level
-level_end-requires-clause-level g c =
+pub level_end-end-requires-clause-level : goal.level_end-end-requires-clause-level
+level_end-end-requires-clause-level g c =
     let (f, is) = running_function g.T.Timeline.history g.row.W c.args.compiled.now c.args.words.now c.requires.sound c.args.frame c.args.function c.requires.runs in
     running_level g.T.Timeline.history g.row.W c.args.compiled.now c.args.words.now c.requires.sound c.args.frame c.args.function c.requires.runs f is c.innermost-level.result (c.innermost-level.ensures f is)
 
 pub returns : goal.returns
 returns g c f is = record {
   innermost = c.innermost-level.ensures f is;
-  least_number = c.least-step.ensures ∙ ap₂ (λ end ns. least end ns) (c.level_end.ensures f is) c.lanes-numbers.ensures;
-  lanes = c.waiting_for.ensures ∙ ap (λ ns. waiting_for c.least-step.result ns) c.lanes-numbers.ensures;
+  least_number = c.least_waiting-step.ensures.number ∙ ap₂ (λ end ns. least end ns) (c.level_end-end.ensures f is) c.lanes-numbers.ensures;
+  lanes = c.least_waiting-step.ensures.lanes ∙ ap (λ ns. waiting_for c.least_waiting-step.result.0 ns) c.lanes-numbers.ensures;
 }
