@@ -129,6 +129,7 @@ impl Bounds {
     }
 
     /// The index values that a lane takes at a place, row by row; none where the last one is at its bound.
+    #[inline(always)]
     pub(crate) fn row_slot<const W: usize>(self, place: Grid, lane: usize) -> Option<IndexValues>
         requires width { IsGangWidth W }
         requires lane { lane < W }

@@ -38,6 +38,7 @@ impl Domain {
     }
 
     /// The index values that a lane takes at a place, if it takes any.
+    #[inline(always)]
     fn slot<const W: usize>(self, place: Grid, lane: usize) -> Option<IndexValues>
         requires width { IsGangWidth W }
         requires lane { lane < W }
@@ -50,6 +51,7 @@ impl Domain {
     }
 
     /// The next round where so much of the grid is left; none where nothing is left.
+    #[inline(always)]
     pub fn next_round<const W: usize>(self, left: Grid) -> Option<DomainRound<W>>
         requires width { IsGangWidth W }
         requires left { grids.IsLeft (domain_grid W self) (grid_view left) }

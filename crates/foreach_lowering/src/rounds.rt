@@ -44,6 +44,7 @@ pub struct Round<const W: usize> {
 }
 
 /// The next round of a `foreach` or `foreach_tiled`.
+#[inline(always)]
 fn next_place<const W: usize>(domain: Domain, left: Grid) -> Option<Round<W>>
     requires width { IsGangWidth W }
     requires left { IsLeft (domain_grid W domain) (grid_view left) }
@@ -98,6 +99,7 @@ impl<const W: usize> RoundsLeft<W> {
     }
 
     /// Whether a round is left, without making it: yes exactly where `next_round` has one.
+    #[inline(always)]
     pub fn is_any_left(self) -> bool
         requires width { IsGangWidth W }
         requires left { AreLeft W self }
@@ -112,6 +114,7 @@ impl<const W: usize> RoundsLeft<W> {
 
     /// The next round, the first of those that are left by the meaning, and what is left behind it; none where none is left. So the n-th
     /// round by what is kept is the n-th of the meaning's list, whatever the form, its lanes and the state in which it begins (`law`).
+    #[inline(always)]
     pub fn next_round(self) -> Option<Round<W>>
         requires width { IsGangWidth W }
         requires left { AreLeft W self }

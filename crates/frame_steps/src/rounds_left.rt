@@ -18,6 +18,7 @@ use machine_words::{Head, LevelPart, MachineWords, Region};
 use undo_log::Timeline;
 
 /// The rounds left of a form with these index variables that has begun in a level of a frame.
+#[inline(always)]
 pub fn kept_rounds<const W: usize, T: Timeline + Drop>(
     words: &MachineWords<T>,
     frame: usize,
@@ -50,6 +51,7 @@ pub fn kept_rounds<const W: usize, T: Timeline + Drop>(
 }
 
 /// The words of low and high of each of three dimensions.
+#[inline(always)]
 fn bounds_kept<const W: usize, T: Timeline + Drop>(
     words: &MachineWords<T>,
     counters: Region,
@@ -70,6 +72,7 @@ fn bounds_kept<const W: usize, T: Timeline + Drop>(
 }
 
 /// The bounds of so many dimensions by their words: low and high of each of three, one behind the other.
+#[inline(always)]
 pub fn bounds_of(words: &[u64; 6], dimensions: usize) -> Bounds
     requires { (1 ≤ dimensions) × (dimensions ≤ 3) }
     ensures { (ds : List Dimension) → length ds ≡ dimensions → bounds_view result ≡ bounds_in ds words.now }
@@ -86,6 +89,7 @@ pub fn bounds_of(words: &[u64; 6], dimensions: usize) -> Bounds
 }
 
 /// Those of one dimension.
+#[inline(always)]
 fn range(words: &[u64; 6], dimension: usize) -> Range
     requires { dimension < 3 }
     ensures { range_view result ≡ (value_of Int32 (slice_index words.now (2 * dimension)), value_of Int32 (slice_index words.now (2 * dimension + 1))) }
@@ -97,6 +101,7 @@ fn range(words: &[u64; 6], dimension: usize) -> Range
 }
 
 /// How much of the grid of a domain is left.
+#[inline(always)]
 fn grid_left<const W: usize, T: Timeline + Drop>(words: &MachineWords<T>, counters: Region) -> Grid
     requires width { IsGangWidth W }
     requires laid { AreLaid T.history W words.now }
