@@ -2,8 +2,10 @@
 use crate::ends::{Ended, end_of};
 use adapter_frames::{FrameReader, write_frame};
 use adapter_messages::{
-    Head, event_message, failure_message, output_body, read_request, reply_message, stop_body,
+    Head, change_body, event_message, failure_message, output_body, read_request, reply_message,
+    stop_body,
 };
+use adapter_paths::is_same_file;
 use adapter_requests::{Reply, StopReason};
 use serde_json::Value;
 use std::alloc::Global;
@@ -34,7 +36,11 @@ pub(crate) fn call(alloc: Global, name: &str) -> Option<Ended> {
         "adapter_messages::stop_body" => {
             Some(end_of(&stop_body(alloc, StopReason::Breakpoint(1), 2, "here")))
         }
+        "adapter_messages::change_body" => Some(end_of(&change_body(alloc))),
         "adapter_messages::output_body" => Some(end_of(&output_body(alloc, "a text"))),
+        "adapter_paths::is_same_file" => {
+            Some(end_of(&is_same_file(alloc, "/a/b/../it.ispc", "/a/it.ispc")))
+        }
         _ => None,
     }
 }
