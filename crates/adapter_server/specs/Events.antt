@@ -77,10 +77,14 @@ tells_value other = false
 abbrev pub change_events : (hears : Bool) → Request → Reply → List ToldEvent
 change_events hears asked told = if hears && asks_to_set asked && tells_value told then Changes ∷ [] else []
 
--- the end where a reply tells that the program had ended, and else the stop that an editor is told of behind the reply, and a change
+-- the end where a reply tells that the program had ended, and else the stop that an editor is told of behind the reply
+abbrev pub standing_events : Threads → Setting → Debugger → Request → (last : StopReason) → Reply → List ToldEvent
+standing_events seen s d asked last Ended = Ends ∷ []
+standing_events seen s d asked last other = stop_events seen s d (stop_behind (is_move asked) last other)
+
+-- what a reply leads to: the end or a stop, and a change
 abbrev pub reply_events : Threads → (hears : Bool) → Setting → Debugger → Request → (last : StopReason) → Reply → List ToldEvent
-reply_events seen hears s d asked last Ended = Ends ∷ []
-reply_events seen hears s d asked last other = stop_events seen s d (stop_behind (is_move asked) last other) ++ change_events hears asked other
+reply_events seen hears s d asked last told = standing_events seen s d asked last told ++ change_events hears asked told
 
 -- the end where a request asks for it
 abbrev pub request_events : Setting → Debugger → Request → List ToldEvent

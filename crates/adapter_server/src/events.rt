@@ -146,7 +146,7 @@ fn put_verdict(
     }
 }
 
-/// Puts behind others what a reply leads to: the end, or the stop that an editor is told of behind it, and a change.
+/// Puts behind others what a reply leads to: the end or a stop, and a change.
 fn put_reply<M: RecordedMachine>(
     alloc: Global,
     launch: &Launch<'_>,
@@ -159,16 +159,32 @@ fn put_reply<M: RecordedMachine>(
     ensures { (s : Setting) (d : Debugger) → StandsFor M.stands session.now s d
         → OnOk result (map event_view events.new.items ≡ map event_view events.old.items ++ spec.reply_events (threads_of launch.now) told.hears_changes s d request.now told.last reply.now) }
 {
+    put_standing(alloc, launch, session, told.last, request, reply, events)?;
+    put_change(told.hears_changes, request, reply, events)?;
+    Ok(())
+}
+
+/// Puts behind others where a reply leaves the program: the end, or the stop that an editor is told of behind it.
+fn put_standing<M: RecordedMachine>(
+    alloc: Global,
+    launch: &Launch<'_>,
+    session: &Session<M>,
+    last: StopReason,
+    request: &Request<'_>,
+    reply: &Reply,
+    events: &mut Vec<Event>,
+) -> Result<(), AllocError>
+    ensures { (s : Setting) (d : Debugger) → StandsFor M.stands session.now s d
+        → OnOk result (map event_view events.new.items ≡ map event_view events.old.items ++ spec.standing_events (threads_of launch.now) s d request.now last reply.now) }
+{
     match reply {
         Reply::Ended => {
             events.push(Event::End)?;
             Ok(())
         }
         _ => {
-            let stop = stop_behind(request, reply, told.last);
-            put_stop(alloc, launch, session, stop, events)?;
-            put_change(told.hears_changes, request, reply, events)?;
-            Ok(())
+            let stop = stop_behind(request, reply, last);
+            put_stop(alloc, launch, session, stop, events)
         }
     }
 }
