@@ -2,6 +2,7 @@ pub mod ActiveLanes
 pub mod CallFrames
 pub mod ColumnUnits
 pub mod Completing
+pub mod EndFrames
 pub mod FrameLines
 pub mod LaneValues
 pub mod LowestLane
@@ -13,6 +14,7 @@ pub mod Rows
 pub mod ShownAnswers
 pub mod ToldVariables
 pub mod TopFrame
+pub mod WorkedEnds
 pub mod WorkedHints
 pub mod WorkedTargets
 pub mod WorkedThreads

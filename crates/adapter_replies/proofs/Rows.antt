@@ -43,7 +43,7 @@ use Rattle.adapter_replies.specs.Shown.{shown_text, without_end}
 use Rattle.adapter_replies.specs.Stopped.{goto_reason, reason_of}
 use Rattle.adapter_replies.specs.Expressions.{lanes_text, one_text, shown_in}
 use Rattle.adapter_replies.specs.Pages.{named_children, paged}
-use Rattle.adapter_replies.specs.Told.{IsEvaluated, IsMoveTold, as_set, fixed_reply, is_expression, set_unsaid}
+use Rattle.adapter_replies.specs.Told.{IsEvaluated, IsMoveTold, as_set, fixed_reply, is_expression, set_place, set_unsaid}
 use Rattle.adapter_replies.specs.Variables.{has_range, range_count, ranges_in, told_parts, type_text, values, waits_at, whole_text}
 use Rattle.adapter_replies.specs.Waiting.{waits}
 
@@ -414,8 +414,14 @@ nothing_is_set = refl
 set_in_the_top_frame_then : (target : _) (shown : _) → set_unsaid (answer.Shows target shown) Console (codes "set var x[1] = 5") ≡ None
 set_in_the_top_frame_then target shown = refl
 
-value_that_was_set : (told : _) → as_set (reply.Evaluated told None 13) ≡ reply.Set told
+value_that_was_set : (told : _) → as_set (reply.Evaluated told None 13) ≡ reply.Set told 13
 value_that_was_set told = refl
+
+lanes_of_what_was_set : (told : _) → set_place (reply.Set told 2033) ≡ place.Parts Locals 3 2
+lanes_of_what_was_set told = refl
+
+nothing_opens_of_a_refusal : (text : _) → set_place (reply.Refused text) ≡ place.Nothing
+nothing_opens_of_a_refusal text = refl
 
 at_watch : reason_of (answer.AtWatch 3) ≡ Some (reason.DataBreakpoint 3)
 at_watch = refl

@@ -4,6 +4,7 @@ pub mod Children
 pub mod Columns
 pub mod Completions
 pub mod Console
+pub mod Ends
 pub mod Exceptions
 pub mod Expressions
 pub mod Forms

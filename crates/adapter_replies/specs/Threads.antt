@@ -1,10 +1,10 @@
 -- The threads that an editor sees where each lane is one: their names, the frames of a lane, and which of them a stop names.
-use Rattle.std.specs.Prelude.{◌≡◌, ℕ, ◌+◌, ◌-◌, ◌==◌, nat_le, nat_lt, Bool, ◌&&◌, ◌||◌, List, [], ◌++◌, codes, decimal, filter, map, Option, Some, None, if◌then◌else◌}
+use Rattle.std.specs.Prelude.{◌≡◌, ℕ, ◌+◌, ◌-◌, ◌==◌, nat_le, nat_lt, Bool, true, false, ◌&&◌, ◌||◌, List, [], ◌++◌, codes, decimal, filter, map, Option, Some, None, if◌then◌else◌}
 use Rattle.std.specs.List.{range_with_len}
 use Rattle.gang_types.specs.Lanes.{Lanes, has, lowest}
 use Rattle.gang_model.specs.Running.State.{State}
 use Rattle.gang_model.specs.Debugger.Positions.{lanes_now}
-use Rattle.gang_model.specs.Debugger.Debugger.{Debugger, Setting, now}
+use Rattle.gang_model.specs.Debugger.Debugger.{Debugger, Setting, has_ended, now}
 use Rattle.gang_model.specs.Texts.Text.{Bytes}
 use Rattle.adapter_requests.specs.declared.reply.Reply.{Reply}
 use Rattle.adapter_requests.specs.declared.reply.StopReason.{StopReason}
@@ -68,17 +68,23 @@ stop_thread (threads.Lanes width) lanes why = thread_or_first width (stop_lane l
 
 -- ---- what is told
 
--- what a request for the frames of a lane is told, or for those of a thread that no lane has
-abbrev pub IsStackTold : Setting → Debugger → (lane : Option ℕ) → (start levels : Option ℕ) → Reply → Type 0
-IsStackTold s d None start levels told = told_stop told ≡ Some (None, codes "no thread has this number")
-IsStackTold s d (Some lane) start levels told = AreFramesTold start levels (lane_frames (now s d) lane (all_frames s.program (now s d).frames)) told
+-- what a request for the frames of a lane is told; nothing of its own once the program has ended
+abbrev pub IsLaneStackTold : (has_ended : Bool) → Setting → Debugger → (lane : ℕ) → (start levels : Option ℕ) → Option Reply → Type 0
+IsLaneStackTold true s d lane start levels told = told ≡ None
+IsLaneStackTold false s d lane start levels None = ⊥
+IsLaneStackTold false s d lane start levels (Some told) = AreFramesTold start levels (lane_frames (now s d) lane (all_frames s.program (now s d).frames)) told
+
+-- the same of a thread that a lane has, or none
+abbrev pub IsStackTold : Setting → Debugger → (lane : Option ℕ) → (start levels : Option ℕ) → Option Reply → Type 0
+IsStackTold s d None start levels None = ⊥
+IsStackTold s d None start levels (Some told) = told_stop told ≡ Some (None, codes "no thread has this number")
+IsStackTold s d (Some lane) start levels told = IsLaneStackTold (has_ended (now s d)) s d lane start levels told
 
 -- what a request is told where each lane of a gang of so many is a thread, if it is one for threads or for the frames of one
 abbrev pub IsLaneTold : Setting → Debugger → (width : ℕ) → Request → Option Reply → Type 0
 IsLaneTold s d width request.Threads None = ⊥
 IsLaneTold s d width request.Threads (Some told) = told_threads told ≡ Some (lane_threads (lanes_now (now s d)) width)
-IsLaneTold s d width (request.StackTrace thread start levels) None = ⊥
-IsLaneTold s d width (request.StackTrace thread start levels) (Some told) = IsStackTold s d (lane_of width thread) start levels told
+IsLaneTold s d width (request.StackTrace thread start levels) told = IsStackTold s d (lane_of width thread) start levels told
 IsLaneTold s d width other told = told ≡ None
 
 -- the same by what the threads are; nothing where the gang is the one thread

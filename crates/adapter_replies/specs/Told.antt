@@ -1,10 +1,10 @@
 -- What each request is told.
-use Rattle.std.specs.Prelude.{◌≡◌, ◌⊎◌, ℕ, Bool, true, false, not, ◌&&◌, ◌||◌, is_some, List, [], ◌∷◌, ◌++◌, length, map, codes, string_bytes, Option, Some, None}
+use Rattle.std.specs.Prelude.{◌≡◌, ◌⊎◌, ℕ, Bool, true, false, not, ◌&&◌, ◌||◌, is_some, List, [], ◌∷◌, ◌++◌, length, map, codes, string_bytes, option_map, Option, Some, None}
 use Rattle.std.specs.Str.Lossy.{utf8_lossy}
 use Rattle.gang_model.specs.Running.State.{State}
 use Rattle.gang_model.specs.Debugger.Debugger as model
 use Rattle.gang_model.specs.Types.Tree.{Variable}
-use Rattle.gang_model.specs.Debugger.Debugger.{Debugger, OutOfRange, Refusal, Setting, Target, bad_part, depth, now, part_shown, target_words}
+use Rattle.gang_model.specs.Debugger.Debugger.{Debugger, OutOfRange, Refusal, Setting, Target, bad_part, depth, has_ended, now, part_shown, target_words}
 use Rattle.gang_model.specs.Texts.CommandText.{command_of}
 use Rattle.gang_model.specs.Texts.Text.{Bytes, index_text}
 use Rattle.debug_answers.specs.declared.answer.Answer.{Answer}
@@ -17,6 +17,7 @@ use Rattle.frame_values.specs.declared.values.ExpressionValue.{ExpressionValue}
 use Rattle.frame_values.specs.declared.values.NoValue.{NoValue}
 use Rattle.frame_values.specs.Values.{HasNoValue, IsValueOf}
 use Rattle.adapter_requests.specs.declared.reply.Breakpoint.{Breakpoint}
+use Rattle.adapter_requests.specs.declared.reply.CallScopes.{CallScopes}
 use Rattle.adapter_requests.specs.declared.reply.StopReason.{StopReason}
 use Rattle.adapter_requests.specs.declared.reply.Reply.{Reply}
 use Rattle.adapter_requests.specs.declared.reply.Reply.TheVariants as reply
@@ -89,19 +90,28 @@ abbrev pub AreVariablesTold : Option (List ToldVariable) → Reply → Type 0
 AreVariablesTold None told = told_stop told ≡ Some (None, codes "nothing has this reference now")
 AreVariablesTold (Some variables) told = told_variables told ≡ Some variables
 
--- what the references of a reply stand for: those of the local variables, of the parameters and of the variables of the file
-abbrev pub told_scopes : Reply → Option (Place × Place × Place)
-told_scopes (reply.Scopes shown) = Some (place_of shown.locals, place_of shown.arguments, place_of shown.file)
+-- what the references of a call stand for: those of its local variables and of its parameters
+abbrev pub call_places : CallScopes → Place × Place
+call_places call = (place_of call.locals, place_of call.arguments)
+
+-- what the references of a reply stand for: those of a call, if there are some, and that of the variables of the file
+abbrev pub told_scopes : Reply → Option (Option (Place × Place) × Place)
+told_scopes (reply.Scopes shown) = Some (option_map call_places shown.call, place_of shown.file)
 told_scopes other = None
+
+-- what can be shown of the call of the frame at a depth; at the end of the program no function runs
+abbrev pub call_scopes : (has_ended : Bool) → (depth : ℕ) → Option (Place × Place)
+call_scopes true deep = None
+call_scopes false deep = Some (within (place.Variables Locals deep), within (place.Variables Arguments deep))
 
 -- a request for a frame that is not there is refused
 abbrev pub IsNoFrame : Reply → Type 0
 IsNoFrame told = told_stop told ≡ Some (None, codes "no frame has this number now")
 
 -- what a request for the scopes of a frame is told
-abbrev pub AreScopesTold : (is_frame : Bool) → (depth : ℕ) → Reply → Type 0
-AreScopesTold false deep told = IsNoFrame told
-AreScopesTold true deep told = told_scopes told ≡ Some (within (place.Variables Locals deep), within (place.Variables Arguments deep), place.File)
+abbrev pub AreScopesTold : (is_frame has_ended : Bool) → (depth : ℕ) → Reply → Type 0
+AreScopesTold false has_ended deep told = IsNoFrame told
+AreScopesTold true has_ended deep told = told_scopes told ≡ Some (call_scopes has_ended deep, place.File)
 
 -- the names of a reply that can stand in a text
 abbrev pub told_completions : Reply → Option (List ToldCompletion)
@@ -190,10 +200,15 @@ IsNameToldIn true s d deep asking told = IsTargetTold s d deep asking (target_in
 
 -- ---- values that were set in another frame than the top one
 
--- the value that a reply tells, as one that was set; any other reply as it is
+-- the value that a reply tells, as one that was set, which opens the same; any other reply as it is
 abbrev pub as_set : Reply → Reply
-as_set (reply.Evaluated text reason reference) = reply.Set text
+as_set (reply.Evaluated text reason reference) = reply.Set text reference
 as_set other = other
+
+-- what can be opened of what was set
+abbrev pub set_place : Reply → Place
+set_place (reply.Set text reference) = place_of reference
+set_place other = place.Nothing
 
 -- what is told of a name that was set in the frame at a depth: the values that it has there then
 pub record IsSetThereTold (s : Setting) (d : Debugger) (deep : ℕ) (name : Bytes) (is_hexadecimal : Bool) (told : Reply) : Type 0 where
@@ -201,10 +216,15 @@ pub record IsSetThereTold (s : Setting) (d : Debugger) (deep : ℕ) (name : Byte
   pub is : IsTargetTold s d deep (asking_of Watch name is_hexadecimal) (target_in name) shown
   pub told_is : told ≡ as_set shown
 
--- the same by the answer to the line: nothing is said where a value was set in another frame than the top one
+-- what was set in the top frame opens as what the answer to the line shows there
+abbrev pub IsOpenedBy : Setting → Debugger → Option Answer → Reply → Type 0
+IsOpenedBy s d None told = Unit {0}
+IsOpenedBy s d (Some given) told = set_place told ≡ opened_by s d given
+
+-- the same by the answer to the line, which says nothing where a value was set in another frame than the top one
 abbrev pub IsGivenTold : Setting → Debugger → Option Answer → (depth : ℕ) → (name : Bytes) → (is_hexadecimal : Bool) → Reply → Type 0
 IsGivenTold s d (Some answer.Silent) deep name is_hexadecimal told = IsSetThereTold s d deep name is_hexadecimal told
-IsGivenTold s d other deep name is_hexadecimal told = Unit {0}
+IsGivenTold s d other deep name is_hexadecimal told = IsOpenedBy s d other told
 
 -- the target that a line of the console has set, of which nothing is said
 abbrev pub set_unsaid : Answer → Context → (text : Bytes) → Option Target
@@ -276,7 +296,7 @@ IsEvaluateTold s d last other told = Unit {0}
 abbrev pub IsLookTold : Setting → Debugger → Request → Reply → Type 0
 IsLookTold s d request.Threads told = AreThreadsTold told
 IsLookTold s d (request.StackTrace thread start levels) told = AreFramesTold start levels (all_frames s.program (now s d).frames) told
-IsLookTold s d (request.Scopes frame) told = AreScopesTold (is_frame (depth (now s d)) frame) frame told
+IsLookTold s d (request.Scopes frame) told = AreScopesTold (is_frame (depth (now s d)) frame) (has_ended (now s d)) frame told
 IsLookTold s d (request.Variables reference page is_hexadecimal) told = AreVariablesTold (told_now (form_if is_hexadecimal) page s d reference) told
 IsLookTold s d (request.DataBreakpointInfo reference frame name) told = IsWatchableTold (is_watchable_of s d reference frame name.now) name.now told
 IsLookTold s d (request.Completions text column frame) told = AreCompletionsToldIn s d (frame_or (depth (now s d)) frame) (front text.now column) told
@@ -291,7 +311,7 @@ IsToldOf s d last other told = IsLookTold s d other told
 
 -- what a request is told that has the same reply always
 abbrev pub fixed_reply : Request → Option Reply
-fixed_reply request.Initialize = Some reply.Capabilities
+fixed_reply (request.Initialize hears_invalidated) = Some reply.Capabilities
 fixed_reply request.SetExceptionBreakpoints = Some reply.Done
 fixed_reply request.ConfigurationDone = Some reply.Done
 fixed_reply request.Terminate = Some reply.Done
@@ -359,7 +379,7 @@ IsGotoTold (Some given) text told = told_stop told ≡ Some (goto_reason given, 
 abbrev pub IsSetTold : Option Answer → (text values : Bytes) → Reply → Type 0
 IsSetTold None text values told = told_stop told ≡ Some (None, codes "only a variable of a frame or of the file can be set")
 IsSetTold (Some answer.Silent) text values told = Unit {0}
-IsSetTold (Some (answer.Shows target shown)) text values (reply.Set value) = string_bytes value ≡ values
+IsSetTold (Some (answer.Shows target shown)) text values (reply.Set value reference) = string_bytes value ≡ values
 IsSetTold (Some (answer.Shows target shown)) text values told = ⊥
 IsSetTold (Some given) text values told = told_stop told ≡ Some (None, unset_text given text)
 

@@ -9,7 +9,7 @@ ghost use Rattle.adapter_replies.specs.Asking.{asking_of, asking_view};
 ghost use Rattle.adapter_replies.specs.Forms.{form_if};
 ghost use Rattle.adapter_replies.specs.Opened.{unless_refused};
 ghost use Rattle.adapter_replies.specs.References.{place_of};
-ghost use Rattle.adapter_replies.specs.Told.{IsAnsweredIn, IsEvaluated, IsLineTold, IsLookedUp, IsPrinted, IsSetTold, IsTextTold, MeansLast, has_values, is_expression, is_line, is_told_whole, is_unnamed, shown_option, shown_values, told_place};
+ghost use Rattle.adapter_replies.specs.Told.{IsAnsweredIn, IsEvaluated, IsLineTold, IsLookedUp, IsOpenedBy, IsPrinted, IsSetTold, IsTextTold, MeansLast, has_values, is_expression, is_line, is_told_whole, is_unnamed, shown_option, shown_values, told_place};
 
 use crate::asking::{Asking, asking_of};
 use crate::expressions::shown_in;
@@ -73,14 +73,18 @@ pub(crate) fn set<M: FramedMachine>(
     is_hexadecimal: bool,
     last: Option<Answer<'_>>,
 ) -> Result<Reply, AllocError>
-    ensures { (s : Setting) (at d : Debugger) (meant : model.Answer) → M.stands machine.now s at → at.events ≡ d.events → AreStops s stops.now d.stops
+    ensures answered { (s : Setting) (at d : Debugger) (meant : model.Answer) → M.stands machine.now s at → at.events ≡ d.events → AreStops s stops.now d.stops
         → MeansLast s d last.entry meant → IfOk result (λ told. IsSetTold last.entry (text s meant d) (shown_values (now s d) meant (form_if is_hexadecimal)) told) }
+    ensures opens { (s : Setting) (d : Debugger) → M.stands machine.now s d → IfOk result (IsOpenedBy s d last.entry) }
 {
     let Some(answer) = last else {
         return refused(alloc, NOT_SET);
     };
     match values_of(alloc, machine, form_if(is_hexadecimal), answer)? {
-        Some(values) => Ok(Reply::Set(values)),
+        Some(text) => Ok(Reply::Set {
+            text,
+            reference: opened_by(alloc, machine, &answer)?,
+        }),
         None => Ok(Reply::Refused(unset_text(alloc, &answer, machine, stops)?)),
     }
 }

@@ -7,6 +7,7 @@ mod children;
 mod columns;
 mod completions;
 mod console;
+mod ends;
 mod evaluating;
 mod exceptions;
 mod expressions;
@@ -32,6 +33,7 @@ mod watchable;
 
 pub use breakpoints::can_watch;
 pub use children::{OpenedExpression, expression_variables, opened_expression, with_reference};
+pub use ends::reply_at_end;
 pub use exceptions::exception_reply;
 pub use expressions::no_value_text;
 pub use places::{depth_in, depth_of, expression_index, expression_reference, is_set_there};

@@ -1,7 +1,7 @@
 //! What a request is told.
-ghost use Rattle.std.specs.Prelude.{◌≡◌, ◌++◌, ℕ, List, IfOk, IfSome, None, Some, codes, false, string_bytes};
+ghost use Rattle.std.specs.Prelude.{◌≡◌, ◌++◌, ℕ, List, IfOk, IfSome, None, Some, codes, option_map, string_bytes};
 ghost use Rattle.gang_model.specs.Debugger.Debugger as model;
-ghost use Rattle.gang_model.specs.Debugger.Debugger.{Debugger, Setting, depth, now};
+ghost use Rattle.gang_model.specs.Debugger.Debugger.{Debugger, Setting, depth, has_ended, now};
 ghost use Rattle.gang_model.specs.Texts.Text.{text};
 ghost use Rattle.debug_answers.specs.Meanings.{AreStops};
 ghost use Rattle.adapter_replies.specs.Columns.{front};
@@ -11,11 +11,12 @@ ghost use Rattle.adapter_replies.specs.References.{is_frame, place_of, within};
 ghost use Rattle.adapter_replies.specs.Variables.{told_now};
 ghost use Rattle.adapter_replies.specs.declared.places.Place.TheVariants as place;
 ghost use Rattle.adapter_replies.specs.declared.places.Scope.TheVariants.{Arguments, Locals};
-ghost use Rattle.adapter_replies.specs.Told.{AreBreakpointsTold, AreCompletionsToldIn, AreFramesTold, AreScopesTold, AreThreadsTold, AreVariablesTold, IsAnswered, IsEvaluateTold, IsGotoTold, IsLookTold, IsMoveTold, IsToldOf, IsValueAnswered, MeansLast, fixed_reply, is_ended, refusal_text, shown_values, told_stop};
+ghost use Rattle.adapter_replies.specs.Told.{AreBreakpointsTold, AreCompletionsToldIn, AreFramesTold, AreScopesTold, AreThreadsTold, AreVariablesTold, IsAnswered, IsEvaluateTold, IsGotoTold, IsLookTold, IsMoveTold, IsToldOf, IsValueAnswered, MeansLast, call_places, call_scopes, fixed_reply, is_ended, refusal_text, shown_values, told_stop};
 
 use crate::breakpoints::{breakpoints, functions, watches};
 use crate::columns::front_of;
 use crate::completions::completions;
+use crate::ends::has_ended;
 use crate::evaluating::{Line, done, looked_up};
 use crate::exceptions::NO_FAULT;
 use crate::forms::{Form, form_if};
@@ -27,7 +28,7 @@ use crate::setting::{set_expression, set_variable};
 use crate::stops::{goto_reason, stop_of};
 use crate::texts::answer_text;
 use crate::watchable::watchable;
-use adapter_requests::{Page, Reply, Request, Scopes, Stop, StopReason, Thread};
+use adapter_requests::{CallScopes, Page, Reply, Request, Scopes, Stop, StopReason, Thread};
 use debug_answers::{Answer, NumberedStop, Refusal};
 use debug_traits::{FramedMachine, RecordedMachine};
 use frame_expressions::ExpressionMachine;
@@ -87,7 +88,7 @@ pub fn reply_to<M: ExpressionMachine>(
         | Request::Variables { .. }
         | Request::Completions { .. }
         | Request::DataBreakpointInfo { .. } => looked(alloc, machine, request),
-        Request::Initialize
+        Request::Initialize { .. }
         | Request::SetExceptionBreakpoints
         | Request::ConfigurationDone
         | Request::Terminate
@@ -242,7 +243,7 @@ fn plain(alloc: Global, request: &Request<'_>) -> Result<Reply, AllocError>
     ensures refused { IfSome (refusal_text request.now) (λ text. IfOk result (λ told. told_stop told ≡ Some (None, text))) }
 {
     match request {
-        Request::Initialize => Ok(Reply::Capabilities),
+        Request::Initialize { .. } => Ok(Reply::Capabilities),
         Request::ExceptionInfo => refused(alloc, NO_FAULT),
         Request::Pause => refused(alloc, STANDS),
         Request::Launch(_) | Request::Restart => refused(alloc, "the program is launched already"),
@@ -292,11 +293,11 @@ fn stack<M: RecordedMachine>(
 
 /// The scopes of the frame of a number, or a refusal where there is no such frame.
 fn scopes<M: RecordedMachine>(alloc: Global, machine: &M, frame: u64) -> Result<Reply, AllocError>
-    ensures { (s : Setting) (d : Debugger) → M.stands machine.now s d → IfOk result (AreScopesTold (is_frame (depth (now s d)) frame) frame) }
+    ensures { (s : Setting) (d : Debugger) → M.stands machine.now s d → IfOk result (AreScopesTold (is_frame (depth (now s d)) frame) (has_ended (now s d)) frame) }
 {
     let depth = frame as usize;
     if is_frame(depth_of(machine), depth) {
-        Ok(Reply::Scopes(scopes_of(depth)))
+        Ok(Reply::Scopes(scopes_of(has_ended(machine), depth)))
     } else {
         refused(alloc, NO_FRAME)
     }
@@ -343,13 +344,26 @@ pub(crate) fn frame_or(top: usize, frame: Option<u64>) -> usize
     }
 }
 
-/// The scopes of the frame at a depth.
-fn scopes_of(depth: usize) -> Scopes
-    ensures locals { place_of result.locals ≡ within (place.Variables Locals depth) }
-    ensures arguments { place_of result.arguments ≡ within (place.Variables Arguments depth) }
+/// The scopes of the frame at a depth, or of the one at the end of the program.
+fn scopes_of(has_ended: bool, depth: usize) -> Scopes
+    ensures call { option_map call_places result.call ≡ call_scopes has_ended depth }
     ensures file { place_of result.file ≡ place.File }
 {
     Scopes {
+        call: if has_ended {
+            None
+        } else {
+            Some(call_scopes(depth))
+        },
+        file: reference_of(Place::File),
+    }
+}
+
+/// The scopes of the call of the frame at a depth.
+fn call_scopes(depth: usize) -> CallScopes
+    ensures { call_places result ≡ (within (place.Variables Locals depth), within (place.Variables Arguments depth)) }
+{
+    CallScopes {
         locals: reference_of(Place::Variables {
             scope: Scope::Locals,
             depth,
@@ -358,7 +372,6 @@ fn scopes_of(depth: usize) -> Scopes
             scope: Scope::Arguments,
             depth,
         }),
-        file: reference_of(Place::File),
     }
 }
 

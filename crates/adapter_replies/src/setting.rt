@@ -109,12 +109,16 @@ fn set_there<M: ExpressionMachine>(
     Ok(as_set(shown))
 }
 
-/// The value that a reply tells, as one that was set; any other reply as it is.
+/// The value that a reply tells, as one that was set, which opens the same; any other reply as it is.
 fn as_set(reply: Reply) -> Reply
     ensures { result ≡ spec.as_set reply }
 {
     match reply {
-        Reply::Evaluated { text, .. } => Reply::Set(text),
+        Reply::Evaluated {
+            text,
+            reason: _,
+            reference,
+        } => Reply::Set { text, reference },
         other => other,
     }
 }

@@ -10,6 +10,7 @@ ghost use Rattle.adapter_replies.specs.Threads.{IsStackTold, IsThreadTold};
 ghost use Rattle.adapter_replies.specs.Told.{thread_view};
 ghost use Rattle.adapter_replies.specs.Waiting.{position_lanes};
 
+use crate::ends::has_ended;
 use crate::frames::{frames, frames_reply};
 use crate::replies::GANG;
 use crate::waiting::{standing, waits};
@@ -29,8 +30,8 @@ pub enum Threads {
     Lanes(usize),
 }
 
-/// What a request is told that is one for threads, or for the frames of one, where each lane is a thread. Other requests, and all where
-/// the gang is the one thread, are told what `reply_to` says.
+/// What a request is told that is one for threads, or for the frames of one, where each lane is a thread. Other requests, those for frames
+/// once the program has ended, and all where the gang is the one thread, are told what `reply_to` says.
 ///
 /// # Errors
 ///
@@ -55,10 +56,7 @@ pub fn thread_reply<M: RecordedMachine>(
             thread,
             start,
             levels,
-        } => {
-            let reply = lane_stack(alloc, machine, lane_of(width, *thread), *start, *levels)?;
-            Ok(Some(reply))
-        }
+        } => { lane_stack(alloc, machine, lane_of(width, *thread), *start, *levels) }
         _ => Ok(None),
     }
 }
@@ -124,24 +122,26 @@ fn lane_of(width: usize, thread: Option<u64>) -> Option<usize>
     }
 }
 
-/// So many of the frames of a lane, or a refusal where no lane has the thread.
+/// So many of the frames of a lane, or a refusal where no lane has the thread. At the end a lane has those of the gang.
 fn lane_stack<M: RecordedMachine>(
     alloc: Global,
     machine: &M,
     lane: Option<usize>,
     start: Option<u64>,
     levels: Option<u64>,
-) -> Result<Reply, AllocError>
+) -> Result<Option<Reply>, AllocError>
     ensures { (s : Setting) (d : Debugger) → M.stands machine.now s d → IfOk result (IsStackTold s d lane start levels) }
 {
     match lane {
         None => {
             let text = String::from_str(alloc, "no thread has this number")?;
-            Ok(Reply::Refused(text))
+            Ok(Some(Reply::Refused(text)))
         }
+        Some(_) if has_ended(machine) => Ok(None),
         Some(lane) => {
             let own = lane_frames(alloc, machine, lane)?;
-            frames_reply(alloc, own, start, levels)
+            let reply = frames_reply(alloc, own, start, levels)?;
+            Ok(Some(reply))
         }
     }
 }
