@@ -70,8 +70,8 @@ module _ {M : Type 0} (stands : M → Setting → Debugger → Type 0) (s : Sett
   ends_at command most passed at table new end.NoMemory session (few, (there, watched, same)) =
       record { after = at; there = there; meant = model.Refused model.Memory; means = refl }
 
-  -- where no condition and no count is there, the commands of what is meant by a request are done, and nothing else
+  -- where no condition and no count is there, the commands of what is meant by a request are done, and nothing else but that its beginning is noted
   pub plain_request : (program : Bytes) (request : Request) (d : Debugger) (terms : Terms) (answered : Answered) (session : Session M) (new : Terms) → terms.left ≡ nothing → (does : DoesRequest stands s program request d terms answered session new)
-      → DoesPlainly stands s program does.meant d terms answered session new
+      → DoesPlainly stands s program does.does.meant d terms answered session does.after
   plain_request program request d terms answered session new none does =
-      subst (λ way. DoesBy stands way s program does.meant d terms answered session new) (ap (λ (table : Table). if is_nothing table then None else way_of does.meant) none) does.does
+      subst (λ way. DoesBy stands way s program does.does.meant d terms answered session does.after) (ap (λ (table : Table). if is_nothing table then None else way_of does.does.meant) none) does.does.does

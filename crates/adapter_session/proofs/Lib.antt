@@ -3,6 +3,7 @@ pub mod Counted
 mod DoneLines
 mod FunctionLists
 mod GoingTo
+mod JudgedEntries
 mod KeptNumbers
 mod LogLists
 mod MadeAnew
@@ -10,4 +11,5 @@ pub mod NothingLogged
 pub mod Rows
 pub mod StopNumbers
 mod TermLists
+pub mod WorkedEntries
 pub mod WorkedRestarts

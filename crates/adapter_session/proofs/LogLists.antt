@@ -1,5 +1,5 @@
 -- Messages that breakpoints get, one after another.
-use Rattle.std.proofs.Common.{◌≡◌, ap, sym, ◌∙◌, ℕ, ◌+◌, ◌<◌, ◌≤◌, List, length, drop, get_or, map}
+use Rattle.std.proofs.Common.{◌≡◌, ap, sym, ◌∙◌, ℕ, ◌+◌, ◌<◌, ◌≤◌, List, Option, None, length, drop, get_or, map}
 use Rattle.std.proofs.lemmas.List.{at_drop_more, at_drop_all}
 use Rattle.debug_answers.specs.declared.stops.NumberedStop.{NumberedStop}
 use Rattle.conditional_stops.specs.Tables.{Table}
@@ -41,21 +41,21 @@ carried_end asked old i left logs total past so = sym (ap (λ olds. carried_logs
 
 -- ---- terms of which no stop was passed yet
 
-abbrev pub terms : (asked left : Table) → List Log → (kept : Table) → (functions : List FunctionStop) → Terms
-terms asked left logs kept functions = record { asked = asked; left = left; logs = logs; log_left = kept; functions = functions }
+abbrev pub terms : (asked left : Table) → List Log → (kept : Table) → (functions : List FunctionStop) → (entry : Option ℕ) → Terms
+terms asked left logs kept functions entry = record { asked = asked; left = left; logs = logs; log_left = kept; functions = functions; entry = entry }
 
-pub made_anew : (table asked before left kept : Table) (logs : List Log) (functions : List FunctionStop) → asked ≡ table → before ≡ table → left ≡ silenced logs before → kept ≡ table → terms asked left logs kept functions ≡ anew table logs functions
+pub made_anew : (table asked before left kept : Table) (logs : List Log) (functions : List FunctionStop) → asked ≡ table → before ≡ table → left ≡ silenced logs before → kept ≡ table → terms asked left logs kept functions None ≡ anew table logs functions
 made_anew table asked before left kept logs functions asked_is before_is left_is kept_is =
-    ap (λ a. terms a left logs kept functions) asked_is
-    ∙ ap (λ l. terms table l logs kept functions) (left_is ∙ ap (silenced logs) before_is)
-    ∙ ap (λ k. terms table (silenced logs table) logs k functions) kept_is
+    ap (λ a. terms a left logs kept functions None) asked_is
+    ∙ ap (λ l. terms table l logs kept functions None) (left_is ∙ ap (silenced logs) before_is)
+    ∙ ap (λ k. terms table (silenced logs table) logs k functions None) kept_is
 
 -- and those of stops of which some came in place of others
-pub made_so : (asked left kept asked_is left_is kept_is : Table) (logs logs_are : List Log) (functions functions_are : List FunctionStop) → asked ≡ asked_is → left ≡ left_is → logs ≡ logs_are → kept ≡ kept_is → functions ≡ functions_are
-    → terms asked left logs kept functions ≡ terms asked_is left_is logs_are kept_is functions_are
-made_so asked left kept asked_is left_is kept_is logs logs_are functions functions_are a l g k f =
-    ap (λ a. terms a left logs kept functions) a
-    ∙ ap (λ l. terms asked_is l logs kept functions) l
-    ∙ ap (λ g. terms asked_is left_is g kept functions) g
-    ∙ ap (λ k. terms asked_is left_is logs_are k functions) k
-    ∙ ap (terms asked_is left_is logs_are kept_is) f
+pub made_so : (asked left kept asked_is left_is kept_is : Table) (logs logs_are : List Log) (functions functions_are : List FunctionStop) (entry : Option ℕ) → asked ≡ asked_is → left ≡ left_is → logs ≡ logs_are → kept ≡ kept_is → functions ≡ functions_are
+    → terms asked left logs kept functions entry ≡ terms asked_is left_is logs_are kept_is functions_are entry
+made_so asked left kept asked_is left_is kept_is logs logs_are functions functions_are entry a l g k f =
+    ap (λ a. terms a left logs kept functions entry) a
+    ∙ ap (λ l. terms asked_is l logs kept functions entry) l
+    ∙ ap (λ g. terms asked_is left_is g kept functions entry) g
+    ∙ ap (λ k. terms asked_is left_is logs_are k functions entry) k
+    ∙ ap (λ f. terms asked_is left_is logs_are kept_is f entry) f

@@ -5,6 +5,7 @@ pub mod Doing
 pub mod Done
 pub mod Given
 pub mod Going
+pub mod Judged
 pub mod Requested
 pub mod Restored
 pub mod Terms

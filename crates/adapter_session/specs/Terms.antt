@@ -1,6 +1,7 @@
--- The conditions and the counts of an editor's breakpoints and watches, the messages of those that write a text in place of stopping, and which breakpoints
--- are functions', by the functions' names.
+-- The conditions and the counts of an editor's breakpoints and watches, the messages of those that write a text in place of stopping, which breakpoints
+-- are functions', by the functions' names, and in which function the program began.
 use Rattle.std.specs.Prelude.{ℕ, ◌==◌, List, [], ◌∷◌, ◌++◌, drop, find, length, map, nat_le, nat_lt, Option, Some, None, is_none, option_map, if◌then◌else◌}
+use Rattle.gang_types.specs.declared.places.Spot.{Spot}
 use Rattle.gang_model.specs.Texts.Text.{Bytes}
 use Rattle.conditional_stops.specs.Tables.{Table, condition_of, condition_refusal, count_refusal, nothing, passes_of, with_condition, with_passes}
 use Rattle.conditional_stops.specs.Views.{table_of}
@@ -18,16 +19,17 @@ abbrev pub function_of : GivenFunctionStop → FunctionStop
 function_of f = record { number = f.number; name = f.name.items }
 
 -- conditions and counts as they were asked for, and as the run has left them; the breakpoints that write a text, with what the run
--- has left of theirs; and the breakpoints of functions
+-- has left of theirs; the breakpoints of functions; and the number of the function in which the program began, once it is known
 pub record Terms : Type 0 where
   pub asked : Table
   pub left : Table
   pub logs : List Log
   pub log_left : Table
   pub functions : List FunctionStop
+  pub entry : Option ℕ
 
 abbrev pub terms_of : GivenTerms → Terms
-terms_of t = record { asked = table_of t.asked; left = table_of t.left; logs = logs_of t.logs; log_left = table_of t.logs.terms; functions = map function_of t.functions.items }
+terms_of t = record { asked = table_of t.asked; left = table_of t.left; logs = logs_of t.logs; log_left = table_of t.logs.terms; functions = map function_of t.functions.items; entry = t.entry }
 
 -- the numbers of the breakpoints of functions
 abbrev pub function_numbers : Terms → List ℕ
@@ -35,7 +37,15 @@ function_numbers terms = map (λ f. f.number) terms.functions
 
 -- as they are asked for, of which no stop was passed yet: those that write a text stop nowhere
 abbrev pub anew : Table → List Log → List FunctionStop → Terms
-anew table logs functions = record { asked = table; left = silenced logs table; logs = logs; log_left = table; functions = functions }
+anew table logs functions = record { asked = table; left = silenced logs table; logs = logs; log_left = table; functions = functions; entry = None }
+
+-- the function in which a program began, by where its outermost frame stands, or else as it was known
+abbrev pub begun_in : (outermost : Option Spot) → (known : Option ℕ) → Option ℕ
+begun_in None known = known
+begun_in (Some spot) known = Some spot.function.0
+
+abbrev pub noted : (outermost : Option Spot) → Terms → Terms
+noted outermost terms = record terms { entry = begun_in outermost terms.entry }
 
 -- a breakpoint has this condition, if it is one and there is room
 abbrev pub conditioned : ℕ → Option Bytes → Table → Table
@@ -142,6 +152,7 @@ changed numbers came asked terms = record {
   logs = given_logs numbers came asked terms.logs;
   log_left = given numbers came asked terms.log_left;
   functions = given_functions numbers came asked terms.functions;
+  entry = terms.entry;
 }
 
 -- those that came stand behind those that stayed

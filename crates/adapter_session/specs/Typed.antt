@@ -18,6 +18,7 @@ use Rattle.adapter_requests.specs.declared.request.Request.{Request}
 use Rattle.adapter_requests.specs.declared.request.Request.TheVariants as request
 use Rattle.adapter_replies.specs.Completions.{frame_or}
 use Rattle.adapter_session.specs.declared.typed.Typed as declared
+use Rattle.adapter_session.specs.Judged.{IsJudgedRequest}
 
 -- ---- the debugger's own lines
 
@@ -91,10 +92,10 @@ pub record Asks (line : Bytes) (typed : Typed) (meant : Request) : Type 0 where
 
 -- what is meant by a request in which a line was typed, or none
 abbrev pub IsMeantBy : Setting → Debugger → Option Typed → Request → (meant : Request) → Type 0
-IsMeantBy s d None request meant = meant ≡ request
+IsMeantBy s d None request meant = IsJudgedRequest request meant
 IsMeantBy s d (Some typed) request meant = Asks (meant_line (is_variable s d typed) typed.line) typed meant
 
--- what is meant by a request: a line of the console stands for the debugger's own
+-- what is meant by a request: a line of the console stands for the debugger's own, and breakpoints and watches are judged by their conditions
 abbrev pub IsMeant : Setting → Debugger → Request → (meant : Request) → Type 0
 IsMeant s d request meant = IsMeantBy s d (typed_in request) request meant
 

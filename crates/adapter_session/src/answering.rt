@@ -1,5 +1,5 @@
 //! What a request does to a session, and what it is told.
-ghost use Rattle.std.specs.Prelude.{◌≡◌, option_map, IfErr, IfOk};
+ghost use Rattle.std.specs.Prelude.{◌≡◌, option_map, unwrap_or, IfErr, IfOk};
 ghost use Rattle.gang_model.specs.Debugger.Debugger as model;
 ghost use Rattle.gang_model.specs.Debugger.Debugger.{Debugger, Setting, depth, now};
 ghost use Rattle.debug_session.specs.Sessions.{StandsFor};
@@ -8,7 +8,7 @@ ghost use Rattle.adapter_replies.specs.Told.{MeansLast};
 ghost use Rattle.adapter_session.specs.Answered.{IsTold, IsToldByLines, MayTell, is_source_of};
 ghost use Rattle.adapter_session.specs.Changes.{change_view};
 ghost use Rattle.adapter_session.specs.Given.{all_numbers};
-ghost use Rattle.adapter_session.specs.Done.{DoesMeant, DoesPlainly, DoesRequest};
+ghost use Rattle.adapter_session.specs.Done.{DoesMeant, DoesPlainly, DoesRead, DoesRequest};
 ghost use Rattle.adapter_session.specs.Requested.{commands_of, commands_there};
 ghost use Rattle.adapter_session.specs.Terms.{changed_by, function_numbers, terms_of};
 
@@ -18,10 +18,11 @@ use crate::doing::do_lines_in;
 use crate::frames::frame_of;
 use crate::functions::function_numbers;
 use crate::going::{go_to, goto_of};
+use crate::judging::judged;
 use crate::lines::{command_lines, is_program};
 use crate::terms::Terms;
 use crate::typed::{meant_line, typed_in};
-use adapter_replies::{depth_of, reply_to};
+use adapter_replies::{depth_of, reply_at_end, reply_to};
 use adapter_requests::{Context, Reply, Request};
 use conditional_stops::Verdict;
 use debug_answers::{Answer, NumberedStop};
@@ -29,6 +30,9 @@ use debug_session::Session;
 use frame_expressions::ExpressionMachine;
 use log_points::Written;
 use std::alloc::{AllocError, Global};
+
+/// The depth of the outermost frame.
+const OUTERMOST: usize = 1;
 
 /// What a request came to.
 #[derive(Drop)]
@@ -43,7 +47,8 @@ pub struct Answered {
 
 /// Does a request, where the program's source has this path, and says what it is told. Where conditions, counts or messages are there, a
 /// program that goes on does so to a stop that counts, and writes texts on the way. A line of the console that is a command in the words of
-/// the prompt is done, and told, as the debugger's own.
+/// the prompt is done, and told, as the debugger's own; a breakpoint or a watch is refused whose condition is no expression, whatever names
+/// there are. In which function the program began is noted, for its frame at the end.
 ///
 /// # Errors
 ///
@@ -59,9 +64,28 @@ pub fn answer_request<M: ExpressionMachine>(
         → IfOk result (λ answered. DoesRequest M.stands s program.now request.now d (terms_of terms.old) answered session.new (terms_of terms.new)) }
     ensures memory { IfErr result (λ _. (session.new ≡ session.old) × (terms.new ≡ terms.old)) }
 {
+    let outermost = session.machine().spot(OUTERMOST);
+    let answered = answer_read(alloc, program, terms, session, request)?;
+    terms.note(outermost);
+    Ok(answered)
+}
+
+/// Does what is meant by a request, and says what it is told.
+fn answer_read<M: ExpressionMachine>(
+    alloc: Global,
+    program: &str,
+    terms: &mut Terms,
+    session: &mut Session<M>,
+    request: &Request<'_>,
+) -> Result<Answered, AllocError>
+    ensures done { (s : Setting) (d : Debugger) → StandsFor M.stands session.old s d
+        → IfOk result (λ answered. DoesRead M.stands s program.now request.now d (terms_of terms.old) answered session.new (terms_of terms.new)) }
+    ensures memory { IfErr result (λ _. (session.new ≡ session.old) × (terms.new ≡ terms.old)) }
+{
     match typed_in(request) {
         None => {
-            let answered = answer_meant(alloc, program, terms, session, request)?;
+            let meant = judged(alloc, session.machine().program(), request)?;
+            let answered = answer_judged(alloc, program, terms, session, request, meant)?;
             Ok(answered)
         }
         Some(typed) => {
@@ -75,6 +99,25 @@ pub fn answer_request<M: ExpressionMachine>(
             let answered = answer_meant(alloc, program, terms, session, &meant)?;
             Ok(answered)
         }
+    }
+}
+
+/// Does the request that came in place of another one, if one did, or else that one, and says what it is told.
+fn answer_judged<M: ExpressionMachine>(
+    alloc: Global,
+    program: &str,
+    terms: &mut Terms,
+    session: &mut Session<M>,
+    request: &Request<'_>,
+    meant: Option<Request<'_>>,
+) -> Result<Answered, AllocError>
+    ensures done { (s : Setting) (d : Debugger) → StandsFor M.stands session.old s d
+        → IfOk result (λ answered. DoesMeant M.stands s program.now (unwrap_or meant.entry request.now) d (terms_of terms.old) answered session.new (terms_of terms.new)) }
+    ensures memory { IfErr result (λ _. (session.new ≡ session.old) × (terms.new ≡ terms.old)) }
+{
+    match meant {
+        None => answer_meant(alloc, program, terms, session, request),
+        Some(meant) => answer_meant(alloc, program, terms, session, &meant),
     }
 }
 
@@ -110,7 +153,8 @@ fn answer_plainly<M: ExpressionMachine>(
 {
     let functions = function_numbers(&terms.functions);
     let change = change_of(alloc, program, functions.as_slice(), session, request)?;
-    let reply = answer_commands(alloc, program, terms, session, request)?;
+    let told = answer_commands(alloc, program, terms, session, request)?;
+    let reply = reply_at_end(alloc, session.machine(), terms.entry, request, told);
     change_terms(terms, session.stops(), change);
     Ok(Answered {
         reply,

@@ -37,6 +37,7 @@ pub fn stop_at_beginning<M: ExpressionMachine>(
     ensures asked { (terms_of terms.new).asked ≡ (terms_of terms.old).asked }
     ensures functions { (terms_of terms.new).functions ≡ (terms_of terms.old).functions }
     ensures logs { (terms_of terms.new).logs ≡ (terms_of terms.old).logs }
+    ensures entry { (terms_of terms.new).entry ≡ (terms_of terms.old).entry }
 {
     let first = ask_breakpoints(alloc, &mut terms.left, session);
     let mut written = Written::new(alloc);

@@ -88,6 +88,7 @@ pub(crate) fn go_to_counted<M: ExpressionMachine>(
         left,
         logs,
         functions: _,
+        entry: _,
     } = terms;
     let wrote = continue_writing(alloc, way, MOST, logs, left, session);
     let answer = wrote.moved.end.answer();

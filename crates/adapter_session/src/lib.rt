@@ -9,6 +9,7 @@ mod doing;
 mod frames;
 mod functions;
 mod going;
+mod judging;
 mod lines;
 mod logging;
 mod restoring;

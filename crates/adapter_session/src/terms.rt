@@ -1,5 +1,5 @@
-//! The conditions and the counts of an editor's breakpoints and watches, the messages of those that write a text in place of stopping, and
-//! which breakpoints are functions'.
+//! The conditions and the counts of an editor's breakpoints and watches, the messages of those that write a text in place of stopping, which
+//! breakpoints are functions', and in which function the program began.
 ghost use Rattle.std.specs.Prelude.{◌≡◌, ◌∷◌, [], drop, map, Some};
 ghost use Rattle.conditional_stops.specs.Tables.{Table, condition_of, nothing, passes_of};
 ghost use Rattle.conditional_stops.specs.Views.{table_of};
@@ -14,17 +14,19 @@ use crate::functions::{FunctionStops, carried_functions, given_functions};
 use crate::logging::{carried_logs, given_logs};
 use conditional_stops::Conditions;
 use debug_answers::NumberedStop;
+use gang_types::Spot;
 use log_points::Logs;
 
 /// The conditions and the counts of breakpoints and watches, by their numbers: as they were asked for, and as the run has left them. And
 /// those that write a text, which stop nowhere, with what the run has left of their conditions and counts; and which are functions', by
-/// the functions' names.
+/// the functions' names. Beside these, the number of the function in which the program began, once it is known.
 #[derive(Drop)]
 pub struct Terms {
     pub(crate) asked: Conditions,
     pub(crate) left: Conditions,
     pub(crate) logs: Logs,
     pub(crate) functions: FunctionStops,
+    pub(crate) entry: Option<usize>,
 }
 
 impl Terms {
@@ -37,6 +39,7 @@ impl Terms {
             left: Conditions::new(),
             logs: Logs::new(Conditions::new()),
             functions: FunctionStops::new(),
+            entry: None,
         }
     }
 
@@ -51,6 +54,16 @@ impl Terms {
             left,
             logs,
             functions,
+            entry: None,
+        }
+    }
+
+    /// Notes in which function the program began, by where its outermost frame stands; nothing where no frame is left.
+    pub(crate) fn note(&mut self, outermost: Option<Spot>)
+        ensures { terms_of self.new ≡ spec.noted outermost (terms_of self.old) }
+    {
+        if let Some(spot) = outermost {
+            self.entry = Some(spot.function.0);
         }
     }
 
@@ -76,6 +89,7 @@ impl Terms {
             left: silenced(&logs, left),
             logs,
             functions: given_functions(self.functions.as_slice(), stops, came, asked),
+            entry: self.entry,
         }
     }
 

@@ -1,4 +1,5 @@
-use Rattle.std.proofs.Common.{refl, ap, ◌∙◌, ℕ, List, Option}
+use Rattle.std.proofs.Common.{refl, ap, subst, sym, ◌∙◌, ℕ, List, Option}
+use Rattle.debug_session.specs.Sessions.{bare}
 use Rattle.adapter_session.specs.Changes.{Change, change_of}
 use Rattle.adapter_session.specs.Given.{all_numbers}
 use Rattle.adapter_session.specs.Terms.{changed_by, function_numbers, terms_of}
@@ -7,8 +8,12 @@ use Rattle.adapter_session.proofs.answering.answer_plainly.Goals as goal
 
 pub returns-clause-done : goal.returns-clause-done
 returns-clause-done g c s d there = record {
-  done = c.in_ok-reply.ensures.done s d there;
-  told = c.in_ok-reply.ensures.told s d there;
+  done = c.in_ok-told.ensures.done s d there;
+  told = record {
+    reply = c.in_ok-told.told;
+    by_commands = c.in_ok-told.ensures.told s d there;
+    at_end = λ e at. c.reply_at_end-reply.ensures s (bare e) (subst (λ machine. g.M.RecordedMachine.stands machine s (bare e)) (sym c.machine.ensures) at.there);
+  };
   verdict = refl;
   silent = c.new.ensures;
   terms_are = λ e at.

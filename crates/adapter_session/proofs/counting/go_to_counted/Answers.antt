@@ -26,6 +26,7 @@ returns g c s d there =
       asked = refl;
       logs = ap (λ points. map log_of points.items) c.continue_writing-wrote.ensures.points;
       functions = refl;
+      entry = refl;
       written = refl;
       after = ended.after;
       there = ended.there;
