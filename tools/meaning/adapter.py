@@ -38,14 +38,21 @@ class Adapter(Looks):
     def __init__(self, *source_and_name, **options):
         super().__init__(*source_and_name, **options)
         self.terms, self.console = {}, []  # what breakpoints and watches ask for, by their numbers, and what the console was told
+        self.entry = self.state.frames[0].function
 
     # ---- frames
 
     def stack(self):
-        """The number, the name with the active lanes, the line and the column of each frame, the top one first."""
+        """The number, the name with the active lanes, the line and the column of each frame, the top one first; at the end that of the end."""
         found = self.standings()
+        if not found:
+            return [self.end()]
         bits = lambda it: "".join("01"[lane in it.lanes] for lane in range(self.width))
         return [(len(found) - at, f"{it.frame.function.name} [{bits(it)}]", *it.place) for at, it in enumerate(found)]
+
+    def end(self):
+        """The frame of a program that has ended, at the closing brace of the function with which it began."""
+        return 1, f"{self.entry.name} (ended)", *self.entry.closing
 
     def threads(self):
         """The number and the name of each lane as a thread, with a mark where it is not active at the next step."""
@@ -53,7 +60,9 @@ class Adapter(Looks):
         return [(lane + 1, f"lane {lane}" + (WAITS if top and lane not in top.lanes else "")) for lane in range(self.width)]
 
     def lane_stack(self, lane):
-        """The frames that were made for a lane, marked where it does not do what is next in them."""
+        """The frames that were made for a lane, marked where it does not do what is next in them; at the end that of the end."""
+        if not self.standings():
+            return [self.end()]
         rows = zip(self.standings(), self.stack())
         return [(number, name + ("" if lane in it.lanes else WAITS), *place) for it, (number, name, *place) in rows if lane in it.frame.lanes]
 
@@ -68,6 +77,10 @@ class Adapter(Looks):
         return found[len(found) - depth] if found else None
 
     # ---- variables
+
+    def scopes(self):
+        """The names of the scopes of a frame; that of the end has the file's variables alone."""
+        return ["Locals", "Arguments", "File"] if self.state.frames else ["File"]
 
     def scope(self, depth, which, is_hexadecimal=False):
         """The variables of a scope of a frame that a name finds there; those of the file as the top frame finds them."""
@@ -142,7 +155,7 @@ class Adapter(Looks):
         return [(f"[{lane}]{mark(word)}", self.row([word], of_type, is_hexadecimal) + mark(word), of_type, None) for lane, word in enumerate(words)]
 
     def set(self, depth, target, value, is_hexadecimal=False):
-        """Sets what a frame finds by a name, or a lane or an element of it, there and in no other frame; gives what it has then."""
+        """Sets what a frame finds by a name, or a lane or an element of it, there and in no other frame; gives what it has then, and how many lanes that opens into."""
         name, index = parts_of(target)
         variable, at = self.found(depth, name), depth - 1
         self.checked_at(variable, index, depth)
@@ -152,7 +165,8 @@ class Adapter(Looks):
         set_part(State(self.width, after.memory, after.frames[: at + 1]), variable, index, value_of(value))
         self.keep("poke", after)
         words = self.words_in(variable, self.standing_at(depth))
-        return self.row(words if index is None else [words[index]], variable.type, is_hexadecimal)
+        lanes = len(words) if index is None and variable.rate == "varying" else 0
+        return self.row(words if index is None else [words[index]], variable.type, is_hexadecimal), lanes
 
     def checked_at(self, variable, index, depth):
         """Refuses a whole array, a part of what has none, and one past the end."""

@@ -197,6 +197,12 @@ class Client:
         same([it["name"] for it in scopes], ["Locals", "Arguments", "File"])
         return [it["variablesReference"] for it in scopes]
 
+    def file_at_end(self):
+        """The reference of the variables of the file in the frame of a program that has ended, which has no others."""
+        [scope] = self.ask("scopes", frameId=1)["scopes"]
+        same(scope["name"], "File")
+        return scope["variablesReference"]
+
     def values(self, reference):
         """The names and values of the variables of a reference."""
         return {name: it["value"] for name, it in self.variables(reference).items()}
@@ -236,9 +242,9 @@ def watches(client, examples):
     client.launch(examples / "total.ispc")
     client.begin()
     same(client.move("continue")["text"], "ended")
-    same(client.place(), [])
+    same(client.place(), [(9, 1, "go (ended)")])
     same(client.ask("evaluate", expression="total")["result"], "-15")
-    found = client.ask("dataBreakpointInfo", name="total", variablesReference=client.scopes(1)[2])
+    found = client.ask("dataBreakpointInfo", name="total", variablesReference=client.file_at_end())
     same(found["dataId"], "total")
     made = client.ask("setDataBreakpoints", breakpoints=[{"dataId": found["dataId"]}])["breakpoints"]
     same(made, [{"id": 1, "verified": True}])

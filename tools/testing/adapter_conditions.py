@@ -49,7 +49,7 @@ def hit(client, stop, number, line, rounds):
 
 
 def ended(client, stop):
-    same((stop["text"], client.place()), ("ended", []))
+    same((stop["text"], [name for *_, name in client.place()]), ("ended", ["go (ended)"]))
 
 
 def rounds_where(holds, width):
@@ -254,6 +254,36 @@ def in_the_console(client, examples):
         client.end()
 
 
+# Conditions that are no expressions, whatever names there are, and that are some: which names a frame has is known at the stop.
+NO_EXPRESSIONS = ("x >", "x = 3", ")", "if", "x x", "i++", "x[", "3 +", "'a'", "\"x\"", "x ? 1", "$", "08x", "x;", "// x", " ")
+SOME_EXPRESSIONS = ("x > 3", "nowhere == 1", "go()", "x[2] > 3", "(i)", "true", "total % 2 == 0 && !odd", "-1", "0x1f < i", "x + nothing")
+
+
+def no_expressions(client, examples):
+    """A condition that is no expression is refused as it is asked for, and the others are set; one with a name that is not there is set too."""
+    with written(SOURCE) as path:
+        client.launch(path)
+        client.begin()
+        conditions = [*NO_EXPRESSIONS, *SOME_EXPRESSIONS]
+        stands = [condition in SOME_EXPRESSIONS for condition in conditions]
+        made = ask(client, *((X, {"condition": condition}) for condition in conditions), (ODD, {}))
+        same([it["verified"] for it in made], [*stands, True])
+        need(all(it["message"] for it in made if not it["verified"]), "a refusal has no text")
+        entries = [{"name": "is_odd", "condition": condition} for condition in conditions]
+        same([it["verified"] for it in client.ask("setFunctionBreakpoints", breakpoints=entries)["breakpoints"]], stands)
+        entries = [{"dataId": "total", "condition": condition} for condition in conditions]
+        same([it["verified"] for it in client.ask("setDataBreakpoints", breakpoints=entries)["breakpoints"]], stands)
+        client.ask("setFunctionBreakpoints", breakpoints=[])
+        client.ask("setDataBreakpoints", breakpoints=[])
+        # What is refused stops nowhere, and takes the place of what stood there.
+        [refused, made] = ask(client, (X, {"condition": "i =="}), (TOTAL, {"condition": "i == 3"}))
+        same((refused["verified"], made["verified"]), (False, True))
+        hit(client, client.move("continue"), made["id"], TOTAL, 3)
+        ended(client, client.move("continue"))
+        client.end()
+
+
 CONDITION_CHECKS = [
+    no_expressions,
     in_some_lane, of_negatives_and_bools, two_conditions, on_one_line, counts, without_value, in_a_call, at_the_start, without_value_at_the_start, restarts, steps, in_the_console,
 ]

@@ -259,4 +259,89 @@ def texts_with_braces(client, examples):
         client.end()
 
 
-FRAME_CHECKS = [own_variables(4), own_variables(8), own_variables(16), outer_frames, sets_in_frames, console_sets_in_frames, goes_on_with_what_is_set, references, frames_by_pieces, texts_with_braces]
+def lanes_of_what_is_set(client, examples):
+    """What is set opens into its lanes, as it does among the variables of its frame; a uniform scalar, a lane and an element open into nothing."""
+    with written(RECURSION) as source:
+        at_depth_3(client, source, 4)
+        by_name = lambda text, value, depth: client.ask("setExpression", expression=text, value=value, frameId=depth)
+        by_list = lambda reference, name, value: client.ask("setVariable", variablesReference=reference, name=name, value=value)
+        for depth in (2, 3):
+            local, arguments, file = client.scopes(depth)
+            opens = {name: it["variablesReference"] for at in (local, arguments, file) for name, it in client.variables(at).items()}
+            same(client.values(by_name("k", "9", depth)["variablesReference"]), {f"k[{lane}]": "9" for lane in range(4)})
+            same((by_name("k", "8", depth), by_list(arguments, "k", "8")), ({"value": "8 8 8 8", "variablesReference": opens["k"]},) * 2)
+            same((by_name("r", "7", depth), by_list(local, "r", "7")), ({"value": "7 7 7 7", "variablesReference": opens["r"]},) * 2)
+            same((by_name("wide", "-1", depth), by_list(file, "wide", "-1")), ({"value": "-1 -1 -1 -1", "variablesReference": opens["wide"]},) * 2)
+            same((by_name("deep", "1", depth), by_list(local, "deep", "1")), ({"value": "1", "variablesReference": 0},) * 2)
+            same((by_name("total", "2", depth), by_list(file, "total", "2")), ({"value": "2", "variablesReference": 0},) * 2)
+            same((by_name("k[2]", "5", depth), by_list(opens["k"], "k[2]", "5")), ({"value": "5", "variablesReference": 0},) * 2)
+            same((by_name("table[4]", "true", depth), by_list(opens["table"], "table[4]", "true")), ({"value": "true", "variablesReference": 0},) * 2)
+            same(client.values(by_name("k[1]", "5", depth)["variablesReference"] or opens["k"])["k[1]"], "5")
+        client.end()
+
+
+AT_END = {"wide": "-3 -3 -3 -3", "total": "7", "table": "5 elements"}
+
+
+def frame_at_the_end(client, examples):
+    """At the end there is one frame, at the closing brace of the entry function, in which the variables of the file are shown, looked up and set."""
+    last = RECURSION.count("\n")
+    with written(RECURSION) as source:
+        for more in ({}, {"history": 1}, {"stopOnEntry": False}):
+            client.launch(source, **more)
+            stop = client.begin() if more.get("stopOnEntry") is False else client.begin() and client.move("continue")
+            same((stop["text"], client.place()), ("ended", [(last, 1, "go (ended)")]))
+            body = client.ask("stackTrace", threadId=1, startFrame=0, levels=20)
+            same((body["stackFrames"][0]["id"], body["totalFrames"]), (1, 1))
+            same(client.ask("stackTrace", threadId=1, startFrame=1)["stackFrames"], [])
+            file = client.file_at_end()
+            same(client.values(file), AT_END)
+            same([client.value(text, 1) for text in ("total", "wide[2]", "table[2]")], ["7", "-3", "true"])
+            same(client.values(client.variables(file)["table"]["variablesReference"])["table[2]"], "true")
+            same([it["label"] for it in client.ask("completions", text="to", column=3, frameId=1)["targets"]], ["total"])
+            same(client.ask("dataBreakpointInfo", name="total", frameId=1)["dataId"], "total")
+            same(client.values(11), {})
+            for number in (0, 2, 2**31):
+                same(client.refused("scopes", frameId=number), NO_FRAME)
+                same(client.refused("evaluate", expression="total", frameId=number), NO_FRAME)
+            same(client.ask("setVariable", variablesReference=file, name="total", value="-8")["value"], "-8")
+            same(client.ask("setExpression", expression="wide", value="4", frameId=1)["value"], "4 4 4 4")
+            same((client.value("total", 1), client.value("wide", 1)), ("-8", "4 4 4 4"))
+            client.again()
+        # Back from the end, and on to it again, the frames are those of the call, and then that of the end.
+        client.launch(source)
+        client.begin()
+        client.move("continue")
+        client.ask("setExpression", expression="total", value="9", frameId=1)
+        client.move("stepBack")
+        same((client.place(), client.value("total", 1)), ([(last, 1, "go [1111]")], "7"))
+        client.scopes(1)
+        client.move("next")
+        same((client.place(), client.value("total", 1)), ([(last, 1, "go (ended)")], "7"))
+        client.ask("restart")
+        same(client.event("stopped")["reason"], "entry")
+        same(client.place(), [(12, 5, "go [1111]")])
+        same(client.move("continue")["text"], "ended")
+        same(client.place(), [(last, 1, "go (ended)")])
+        client.end()
+
+
+def entries_at_the_end(client, examples):
+    """The frame of the end names the function that the launch began with, also behind a restart of another text."""
+    first = "uniform int n = 0;\nexport void one() {\n    n = 1;\n}\nexport void two() {\n    n = 2;\n    return;\n    }\n"
+    with written(first) as source:
+        for entry, last, column, value in (("one", 4, 1, "1"), ("two", 8, 5, "2")):
+            client.launch(source, entry=entry)
+            client.begin()
+            client.move("continue")
+            same((client.place(), client.value("n", 1)), ([(last, column, f"{entry} (ended)")], value))
+            client.again()
+        client.launch(source, entry="two", stopOnEntry=False)
+        same((client.begin()["text"], client.place()), ("ended", [(8, 5, "two (ended)")]))
+        source.write_text("uniform int n = 5;\n\nexport void two() {\n}\nexport void one() {\n}\n")
+        client.ask("restart")
+        same((client.event("stopped")["text"], client.place(), client.value("n", 1)), ("ended", [(4, 1, "two (ended)")], "5"))
+        client.end()
+
+
+FRAME_CHECKS = [lanes_of_what_is_set, frame_at_the_end, entries_at_the_end, own_variables(4), own_variables(8), own_variables(16), outer_frames, sets_in_frames, console_sets_in_frames, goes_on_with_what_is_set, references, frames_by_pieces, texts_with_braces]

@@ -156,7 +156,7 @@ def moves_of_threads(client, examples):
 
 
 def faults_and_ends(client, examples):
-    """A fault names the lane that faults; at the end each lane stands there with no frame, and a restart shows the lanes again."""
+    """A fault names the lane that faults; at the end each lane stands there with the frame of the end, and a restart shows the lanes again."""
     with written(FAULT) as path:
         for width in WIDTHS:
             client.launch(path, width=width, laneThreads=True)
@@ -174,7 +174,10 @@ def faults_and_ends(client, examples):
             client.begin()
             stop = client.move("continue")
             same((stop["text"], stop["threadId"], threads(client)), ("ended", 1, named(width, lambda lane: True)))
-            same([stack(client, lane) for lane in range(width)], [[]] * width)
+            same([stack(client, lane) for lane in range(width)], [[(1, LAST + 1, "go (ended)")]] * width)
+            same([stack(client, lane, startFrame=1) for lane in range(width)], [[]] * width)
+            same((client.values(client.file_at_end()), client.value("total", 1)), ({"total": "7"}, "7"))
+            same([client.refused("stackTrace", threadId=wrong) for wrong in (0, width + 1)], [NO_THREAD] * 2)
             client.breakpoints(LAST)
             same((client.move("reverseContinue")["threadId"], stack(client, 0)), (1, [(1, LAST, f"go [{'1' * width}]")]))
             client.ask("restart")

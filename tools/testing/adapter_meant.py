@@ -25,7 +25,6 @@ from .tried import Result
 
 NAME = "rinddecade, random editors"
 SEED, MANY, ASKED, SECONDS = 95, 48, 60, 120
-SCOPES = ("Locals", "Arguments", "File")
 VALUES = ("7", "-3", "0", "1", "true", "false", "300", "0x1f")
 
 
@@ -106,7 +105,8 @@ class Told:
 
     def scope(self):
         """A scope of a frame, and what one of its variables opens into."""
-        depth, which, is_hexadecimal = self.depth(), self.chance.choice(SCOPES), self.is_in(25)
+        depth, which, is_hexadecimal = self.depth(), self.chance.choice(self.meant.scopes()), self.is_in(25)
+        self.note("scopes", self.meant.scopes(), depth)
         told = self.meant.scope(depth, which, is_hexadecimal)
         self.note("scope", told, depth, which, is_hexadecimal)
         names = [it[0] for it in told if it[-1]]
@@ -147,7 +147,7 @@ class Told:
     def set_value(self):
         """A value that is set where a frame's variable is shown, or by a text in a frame."""
         depth, value, is_hexadecimal = self.depth(), self.chance.choice(VALUES), self.is_in(25)
-        which = self.chance.choice(SCOPES)
+        which = self.chance.choice(self.meant.scopes())
         told = self.meant.scope(depth, which)
         if not told:
             return
@@ -157,7 +157,8 @@ class Told:
         at = self.meant.depth() if which == "File" else depth
         target = part[-1] if part else name
         try:
-            wanted = self.meant.set(at, target, value, is_hexadecimal), None if part or not has_parts else self.meant.parts(at, name, is_hexadecimal)
+            set_to = self.meant.set(at, target, value, is_hexadecimal)
+            wanted = *set_to, None if part or not has_parts else self.meant.parts(at, name, is_hexadecimal)
         except Refused as refused:
             wanted = refusal_text(refused)
         self.note("set", wanted, at, which, name, part[0] if part else None, target, value, is_hexadecimal, self.is_in(40))
@@ -210,6 +211,9 @@ class Client:
         same(told["totalFrames"], len(told["stackFrames"]))
         return [(it["id"], it["name"], it["line"], it["column"]) for it in told["stackFrames"]]
 
+    def scopes(client, depth):
+        return [it["name"] for it in client.ask("scopes", frameId=depth)["scopes"]]
+
     def scope(client, depth, which, is_hexadecimal):
         return [whole(it) for it in listed(client, reference(client, depth, which), is_hexadecimal)]
 
@@ -233,7 +237,8 @@ class Client:
         if not said["success"]:
             return said["message"]
         opens = said["body"]["variablesReference"]
-        return said["body"]["value"], [part(it) for it in listed(client, opens, is_hexadecimal)] if opens else None
+        lanes = [part(it) for it in listed(client, opens, is_hexadecimal)] if opens else None
+        return said["body"]["value"], len(lanes or ()), lanes
 
 
 # Spellings of a count.

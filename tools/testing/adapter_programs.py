@@ -26,6 +26,7 @@ class Walk:
         self.client, self.chance, self.width = client, random.Random(f"{SEED} {number}"), WIDTHS[number % len(WIDTHS)]
         self.source = "\n".join(Source(self.chance).lines) + "\n"
         self.prompt = Prompt(self.source, "go.ispc", width=self.width, steps=STEPS)
+        self.entry = self.prompt.state.frames[0].function
 
     def walk(self):
         with written(self.source) as path:
@@ -82,7 +83,7 @@ class Walk:
         found = self.prompt.standings()
         bits = lambda lanes: "".join("01"[lane in lanes] for lane in range(self.width))
         wanted = [(*it.place, f"{it.frame.function.name} [{bits(it.lanes)}]") for it in found]
-        same(self.client.place(), wanted)
+        same(self.client.place(), wanted or [(*self.entry.closing, f"{self.entry.name} (ended)")])
         if found:
             number = self.chance.randrange(len(found))
             self.look_into(found[number], len(found) - number)

@@ -4,12 +4,13 @@ use crate::runs::session;
 use crate::stops::end_of_verdict;
 use adapter_replies::{
     Threads, answer_text, exception_reply, expression_variables, no_value_text, opened_expression,
-    reply_to, thread_reply,
+    reply_at_end, reply_to, thread_reply,
 };
 use adapter_requests::{Context, Filter, LineBreakpoint, Page, Reply, Request, StopReason};
 use adapter_session::{Answered, Terms, answer_request, command_lines, stop_at_beginning};
 use conditional_stops::CountedStop;
 use debug_answers::Answer;
+use debug_commands::Command;
 use debug_traits::RecordedMachine;
 use frame_values::NoValue;
 use gang_types::{FaultName, IntType};
@@ -31,6 +32,7 @@ pub(crate) fn call(alloc: Global, name: &str) -> Option<Ended> {
         "adapter_session::stop_at_beginning" => begin(alloc),
         "adapter_replies::no_value_text" => Some(end_of(&no_value_text(alloc, NoValue::NoFrame))),
         "adapter_replies::reply_to" => Some(list_frames(alloc, &session(alloc)?)),
+        "adapter_replies::reply_at_end" => Some(list_end(alloc, &mut session(alloc)?)),
         "adapter_replies::opened_expression" => Some(open_value(alloc, &session(alloc)?)),
         "adapter_replies::expression_variables" => Some(list_lanes(alloc, &session(alloc)?)),
         "adapter_replies::exception_reply" => Some(tell_fault(alloc)),
@@ -108,6 +110,21 @@ fn list_frames(alloc: Global, session: &ProgramSession<4>) -> Ended {
         true,
         None,
     ))
+}
+
+/// Replies the frame of a program that has ended.
+fn list_end(alloc: Global, session: &mut ProgramSession<4>) -> Ended {
+    session.do_command(Command::Continue);
+    let request = Request::StackTrace {
+        thread: None,
+        start: None,
+        levels: None,
+    };
+    match reply_at_end(alloc, session.machine(), Some(0), &request, Reply::Done) {
+        Reply::Frames { .. } => Ended::Done,
+        Reply::OutOfMemory => Ended::Memory,
+        _ => Ended::Otherwise,
+    }
 }
 
 /// Looks whether the value of an expression opens.
