@@ -84,6 +84,7 @@ pub record AsksHere {M : Type 0} (stands : M → Setting → Debugger → Type 0
   pub asked : new.terms.asked ≡ old.terms.asked
   pub logs : new.terms.logs ≡ old.terms.logs
   pub functions : new.terms.functions ≡ old.terms.functions
+  pub entry : new.terms.entry ≡ old.terms.entry
   pub asks : (s : Setting) (d : Debugger) → StandsFor stands old.session s d → asking.Asks s d (breakpoints_here s d d.stops) old.terms.left beginning.first new.terms.left
   pub writes : (s : Setting) (d : Debugger) → StandsFor stands old.session s d
       → WritesHere s d old.terms.logs old.terms.log_left no_text new.terms.log_left (written_of beginning.written)
