@@ -6,7 +6,7 @@ Each part takes a program without a sanitizer, which the library of failing.c ma
 import subprocess
 import tempfile
 
-from . import damaged_lines, devices, front_ends, hostile, large, phases, program, spaces
+from . import damaged_lines, devices, front_ends, hostile, large, longest_fronts, phases, program, spaces
 from .built import result
 from .calls import side_by_side
 from .tried import Result
@@ -26,6 +26,10 @@ def failing_devices(root, built, failing):
 
 def damaged_sources(root, built, failing):
     return hostile.damage(root, built, failing)
+
+
+def fronts_of_sources(root, built, failing):
+    return longest_fronts.tasks(root, built)
 
 
 def command_lines(root, built, failing):
@@ -51,6 +55,7 @@ PARTS = {
         "large texts": large_texts,
         "failing devices": failing_devices,
         "damaged sources": damaged_sources,
+        "fronts of sources": fronts_of_sources,
         "refused memory": memory,
         "address spaces": address_spaces,
         "damaged command lines": command_lines,
