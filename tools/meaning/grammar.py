@@ -97,8 +97,8 @@ def rules_of_spec(name, others):
     while found:
         found = {it - {word} for it in found for word in it}
         fronts = fronts | found
-    for front in fronts:
-        rules[named(name, front)] = [(word, named(name, front | {word})) for word in SPEC_WORDS - front if front | {word} in fronts]
+    for front in sorted(fronts, key=sorted):
+        rules[named(name, front)] = [(word, named(name, front | {word})) for word in sorted(SPEC_WORDS - front) if front | {word} in fronts]
         rules[named(name, front)] += [()] if front in whole else []
     return rules
 

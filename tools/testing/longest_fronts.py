@@ -23,8 +23,8 @@ from .tried import SECONDS, Result
 SEED = 3
 IN_A_LINE = 9  # tokens
 # Sources of each kind, and how many damaged ones there are of each.
-RANDOM_PROGRAMS, OF_PROGRAMS, MADE, OF_MADE, SPECS, NESTED, SUMS, LISTS, OF_LIMITS = 12, 16, 40, 6, 400, 80, 20, 16, 4
-LEAST = {"S3": 2000, "S4": 100, "S13": 100, None: 500}
+RANDOM_PROGRAMS, OF_PROGRAMS, MADE, OF_MADE, SPECS, NESTED, SUMS, LISTS, OF_LIMITS = 12, 16, 40, 3, 400, 80, 20, 16, 4
+LEAST = {"S3": 1500, "S4": 100, "S13": 100, None: 500}
 
 NAMES, NUMBERS = ("x", "a", "f", "programIndex"), ("0", "1", "42u", "0x1F")
 WORDS = sorted({it for rules in RULES.values() for rule in rules for it in rule if it not in RULES} - {"name", "number"})
@@ -68,7 +68,7 @@ def heights():
     """Of each part a number that is above those of what it is made of by one of its rules."""
     found = {it: 0 for it in (*WORDS, "name", "number")}
     while len(found) < len(WORDS) + 2 + len(RULES):
-        for part in RULES.keys() - found.keys():
+        for part in (it for it in RULES if it not in found):
             known = [max((found[it] for it in rule), default=0) for rule in RULES[part] if found.keys() >= set(rule)]
             found |= {part: 1 + min(known)} if known else {}
     return found
@@ -122,7 +122,8 @@ def lists(chance):
 
 
 def at_the_limits():
-    """For each form that nests, and for all that counts in an expression: just within the limit, at it and past it; and each word of a spec past one."""
+    """For each form that nests, and for all that counts in an expression: just within the limit, at it and past it, and past both limits; and each word
+    of a spec past one."""
     statements = [it.replace("@", ";").replace("#", "x") for it in STATEMENTS + PLAIN]
     found = [f"void f ( ) {{ {'{ ' * deep} {it} {'} ' * deep} }}" for it in statements for deep in range(60, 65)]
     found += [f"void f ( ) {{ x = {'( ' * deep} {it.replace('#', 'x')} {') ' * deep} ; }}" for it in EXPRESSIONS for deep in range(61, 65)]
@@ -130,6 +131,11 @@ def at_the_limits():
     sums = [f"{'1 + ' * count}{it.replace('%', '+')} 1" for it in counting for count in range(253, 257)]
     found += [f"void f ( ) {{ x = {it} ; }}" for it in sums]
     found += [f"void f ( ) {{ {plain.replace('#', f'{sum_of} 1')} }}" for plain in PLAIN[:-2] for sum_of in ("1 + " * 255, "1 + " * 256, "1 + " * 257)]
+    both = [(f"{'1 + ' * count}{'( ' * deep}", ") " * deep) for count in range(254, 257) for deep in range(61, 64)]
+    found += [f"void f ( ) {{ x = {before}{it.replace('#', 'x')} {behind}; }}" for it in EXPRESSIONS for before, behind in both]
+    found += [f"void f ( {'int a , ' * count}int b ) {{ }}" for count in (7, 8)]
+    found += [f"void f ( ) {{ foreach ( {'i = 0 ... 2 , ' * count}j = 1 ... 3 ) ; }}" for count in (2, 3)]
+    found += [f"void f ( ) {{ switch ( x ) {{ {'case 1 : ' * count}default : ; }} }}" for count in (255, 256)]
     found += [f"void f ( {'int a , ' * 8}{word} b ) {{ }}" for word in SPEC_WORDS]
     found += [f"void f ( ) {{ {'do ' * 64}{word} x ;" for word in SPEC_WORDS]
     found += [f"void f ( ) {{ x = {'1 + ' * 256}( {word} ) 1 ; }}" for word in SPEC_WORDS]
