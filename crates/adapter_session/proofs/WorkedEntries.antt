@@ -27,7 +27,7 @@ an_expression : (text : Bytes) → IsExpression text → IsCondition (Some text)
 an_expression text is = is
 
 -- one that was refused before stays so
-no_line : IsJudged of_line (Err fault.NoLine) (Err fault.NoLine)
+no_line : IsJudged of_line (Err fault.NoStep) (Err fault.NoStep)
 no_line = refl
 
 -- another request is done as it stands

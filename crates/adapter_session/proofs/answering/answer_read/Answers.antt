@@ -18,7 +18,7 @@ returns-in_ok-answered-in-None-clause-done g c s d there =
 pub returns-in_ok-answered-in-Some-clause-done : goal.returns-in_ok-answered-in-Some-clause-done
 returns-in_ok-answered-in-Some-clause-done g c s d there =
     let typed = c.in-Some.typed in
-    let machine = subst (λ machine. g.M.RecordedMachine.stands machine s (bare d)) (sym c.machine.ensures) there.there in
+    let machine = subst (λ machine. g.M.RecordedMachine.stands machine s (bare d)) (sym c.machine-in-Some.ensures) there.there in
     let meant = request.Evaluate c.as_str.result typed.frame Console typed.is_hexadecimal in
     record {
       meant = meant;
