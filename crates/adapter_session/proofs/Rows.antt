@@ -1,8 +1,8 @@
 -- Worked rows of what a restart does, of what going to a line does, of the stop button, of messages, and of lines in the words of the prompt.
 use Rattle.std.proofs.Common.{◌≡◌, refl, true, false, None, Some, ℕ, List, [], ◌∷◌, codes}
 use Rattle.std.specs.Prelude.{option_map, pos}
-use Rattle.gang_model.specs.Types.Tree.{Program, Variable}
-use Rattle.gang_model.specs.Debugger.Debugger.{Debugger, DoBreak, DoContinue, DoDelete, DoReverseContinue, DoSet, DoSetIn, DoStep, DoWatch, Line, Setting, Stop, Target, Watch}
+use Rattle.gang_model.specs.Types.Tree.{Program}
+use Rattle.gang_model.specs.Debugger.Debugger.{Debugger, DoBreak, DoContinue, DoDelete, DoReverseContinue, DoSet, DoSetIn, DoStep, Line, Setting, Stop, Target}
 use Rattle.debug_answers.specs.declared.answer.Answer.TheVariants as answer
 use Rattle.gang_model.specs.Texts.CommandText.{command_of}
 use Rattle.gang_model.specs.Texts.Text.{Bytes}

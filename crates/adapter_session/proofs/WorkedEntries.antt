@@ -1,6 +1,5 @@
 -- Worked rows: entries that are judged by their conditions, and in which function a program began.
-use Rattle.std.proofs.Common.{◌≡◌, refl, true, false, [], ◌∷◌, codes, Option, Some, None, Ok, Err}
-use Rattle.std.specs.Borrow.{Bor}
+use Rattle.std.proofs.Common.{◌≡◌, refl, true, false, [], Some, None, Ok, Err}
 use Rattle.gang_types.specs.declared.places.Spot.{Spot}
 use Rattle.gang_model.specs.Texts.Text.{Bytes}
 use Rattle.adapter_requests.specs.declared.reply.BreakpointFault.TheVariants as fault
@@ -8,7 +7,7 @@ use Rattle.adapter_requests.specs.declared.request.LineBreakpoint.{LineBreakpoin
 use Rattle.adapter_requests.specs.declared.request.Request.TheVariants as request
 use Rattle.conditional_stops.specs.Tables.{nothing}
 use Rattle.adapter_session.specs.Judged.{IsCondition, IsExpression, IsJudged, IsJudgedRequest, IsNoExpression, judged_by, of_line}
-use Rattle.adapter_session.specs.Terms.{Terms, anew, begun_in, noted}
+use Rattle.adapter_session.specs.Terms.{anew, begun_in, noted}
 
 -- a breakpoint stands or is refused by whether it can have its condition; one without a condition stands
 it_stands : (asked : LineBreakpoint) → judged_by true asked ≡ Ok asked

@@ -1,10 +1,10 @@
 -- Worked rows of the numbers that a restart keeps.
-use Rattle.std.proofs.Common.{◌≡◌, refl, ℕ, None, Some, List, [], ◌∷◌, codes, map}
+use Rattle.std.proofs.Common.{◌≡◌, refl, ℕ, Some, List, [], ◌∷◌, codes, map}
 use Rattle.gang_types.specs.declared.types.IntType.TheVariants.{Int32}
 use Rattle.gang_types.specs.declared.types.Rate.TheVariants.{Uniform}
-use Rattle.gang_model.specs.Types.Tree.{Empty, Function, Program, Standing, Variable}
+use Rattle.gang_model.specs.Types.Tree.{Empty, Program, Standing, Variable}
 use Rattle.gang_model.specs.Running.State.{State}
-use Rattle.gang_model.specs.Debugger.Debugger.{Debugger, DoBreak, DoDelete, DoWatch, Line, Setting, Stop, Target, Watch, fresh}
+use Rattle.gang_model.specs.Debugger.Debugger.{DoBreak, DoDelete, DoWatch, Line, Setting, Stop, Target, Watch, fresh}
 use Rattle.adapter_session.specs.Restored.{led, made_anew, numbers, restored, stop_commands, used_up}
 
 -- the watch of a target is made anew by its target, a breakpoint by its line

@@ -2,6 +2,9 @@
 use Rattle.std.specs.Prelude.{◌≡◌, Bool, true, false, List, [], ◌∷◌, Option, Some, None, Result, Ok, Err, if◌then◌else◌}
 use Rattle.gang_model.specs.Source.Parsed.{ParsedExpr}
 use Rattle.gang_model.specs.Texts.Text.{Bytes}
+use Rattle.placed_expressions.specs.declared.answers.ExpressionRefusal.{ExpressionRefusal}
+use Rattle.placed_expressions.specs.declared.answers.ExpressionRefusal.TheVariants as refusal
+use Rattle.placed_expressions.specs.declared.answers.PlacedExpression.{PlacedExpression}
 use Rattle.placed_expressions.specs.Placed.{IsWritten}
 use Rattle.adapter_requests.specs.declared.reply.BreakpointFault.{BreakpointFault}
 use Rattle.adapter_requests.specs.declared.reply.BreakpointFault.TheVariants as fault
@@ -22,6 +25,18 @@ IsNoExpression text = (written : ParsedExpr) → IsWritten text written → ⊥
 abbrev pub IsExpressionOrNot : (text : Bytes) → (is_expression : Bool) → Type 0
 IsExpressionOrNot text true = IsExpression text
 IsExpressionOrNot text false = IsNoExpression text
+
+-- whether a text is an expression, by why it has no value somewhere; nothing is known where memory ran out
+abbrev pub is_written_where : ExpressionRefusal → Option Bool
+is_written_where refusal.Memory = None
+is_written_where (refusal.NoTokens r) = Some false
+is_written_where (refusal.NoExpression r) = Some false
+is_written_where other = Some true
+
+-- the same by what came of placing it there
+abbrev pub is_written : Result PlacedExpression ExpressionRefusal → Option Bool
+is_written (Ok placed) = Some true
+is_written (Err r) = is_written_where r
 
 -- whether an entry can have this condition, or none
 abbrev pub IsCondition : Option Bytes → (is_condition : Bool) → Type 0

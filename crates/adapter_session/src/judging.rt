@@ -1,13 +1,14 @@
 //! Breakpoints and watches whose conditions are no expressions, whatever names there are.
-ghost use Rattle.std.specs.Prelude.{unwrap_or, IfOk};
+ghost use Rattle.std.specs.Prelude.{◌≡◌, unwrap_or, IfOk};
 ghost use Rattle.adapter_session.specs.Changes.{text_of};
+ghost use Rattle.adapter_session.specs.Judged as spec;
 ghost use Rattle.adapter_session.specs.Judged.{AreJudged, IsCondition, IsExpressionOrNot, IsJudged, IsJudgedRequest, of_function, of_line, of_watch};
 
 use adapter_requests::{
     BreakpointFault, DataBreakpoint, FunctionBreakpoint, LineBreakpoint, Request,
 };
 use gang_types::{FuncId, Spot};
-use placed_expressions::{ExpressionRefusal, place_expression};
+use placed_expressions::{ExpressionRefusal, PlacedExpression, place_expression};
 use std::alloc::{AllocError, Global};
 use typed_tree::Program;
 
@@ -160,14 +161,34 @@ fn is_condition(
 }
 
 /// Whether a text is an expression, from its first token to its last.
+#[tactic(auto, using(crate::proofs::JudgedEntries::written_or_not))]
 fn is_expression(alloc: Global, program: &Program, text: &[u8]) -> Result<bool, AllocError>
     ensures { IfOk result (IsExpressionOrNot text.now) }
 {
-    match place_expression(alloc, text, program, ANY_STEP) {
-        Err(ExpressionRefusal::Memory) => Err(AllocError),
-        Err(ExpressionRefusal::NoTokens(_) | ExpressionRefusal::NoExpression(_)) => Ok(false),
-        Ok(_) | Err(ExpressionRefusal::NoValue(_) | ExpressionRefusal::CallsFunction(_)) => Ok(
-            true,
-        ),
+    let placed = place_expression(alloc, text, program, ANY_STEP);
+    match is_written(&placed) {
+        Some(is_expression) => Ok(is_expression),
+        None => Err(AllocError),
+    }
+}
+
+/// Whether a text is an expression, by what came of placing it; nothing is known where memory ran out.
+fn is_written(placed: &Result<PlacedExpression, ExpressionRefusal>) -> Option<bool>
+    ensures { result ≡ spec.is_written placed.now }
+{
+    match placed {
+        Ok(_) => Some(true),
+        Err(refusal) => is_written_where(refusal),
+    }
+}
+
+/// The same of a text that is refused so.
+fn is_written_where(refusal: &ExpressionRefusal) -> Option<bool>
+    ensures { result ≡ spec.is_written_where refusal.now }
+{
+    match refusal {
+        ExpressionRefusal::Memory => None,
+        ExpressionRefusal::NoTokens(_) | ExpressionRefusal::NoExpression(_) => Some(false),
+        ExpressionRefusal::NoValue(_) | ExpressionRefusal::CallsFunction(_) => Some(true),
     }
 }

@@ -1,4 +1,4 @@
-use Rattle.std.proofs.Common.{IfOk, ap, refl, subst, sym, ◌∙◌}
+use Rattle.std.proofs.Common.{ap, refl, subst, sym, ◌∙◌}
 use Rattle.std.specs.Prelude.{option_map, unwrap_or}
 use Rattle.debug_session.specs.Sessions.{bare}
 use Rattle.adapter_requests.specs.declared.request.Context.TheVariants.{Console}

@@ -1,5 +1,4 @@
 use Rattle.std.proofs.Common.{[], ap, sym, ◌∙◌, List, map, subst}
-use Rattle.gang_model.specs.Debugger.Debugger.{Debugger}
 use Rattle.debug_session.specs.Sessions.{StandsFor}
 use Rattle.adapter_session.specs.Given.{all_numbers}
 use Rattle.adapter_session.specs.Restored.{led, restored, stop_commands, terms_anew}
