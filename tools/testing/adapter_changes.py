@@ -157,6 +157,7 @@ def sources_spelled_otherwise(client, examples):
     """A source is the program's by each spelling of its path; and a program whose path is not whole is known by whole paths that end so."""
     with written("export void go() {\n    int x = programIndex;\n}\n") as source:
         folder = source.parent
+        (folder / "a").mkdir()
         paths = lambda forms: [it.format(whole=folder, last=folder.name) for it in forms]
         client.launch(source)
         client.begin()

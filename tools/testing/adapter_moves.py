@@ -37,7 +37,7 @@ def goto_targets(client, examples):
 
 
 def goes(client, examples):
-    """A goto leads to the next time of a line and to the last one before, and leaves no breakpoint."""
+    """A goto leads to the next time of a line and to the last one before, or to the end, on the closing brace, and leaves no breakpoint."""
     client.launch(examples / "lanes.ispc")
     client.begin()
     same(go(client, 4, NEXT), ("goto", 4))
@@ -48,7 +48,7 @@ def goes(client, examples):
     same(client.value("x"), "0 0 0 0")
     same(go(client, 4, LAST), ("step", 2))
     same(go(client, 6, NEXT), ("goto", 6))
-    same(go(client, 2, NEXT), ("goto", None))
+    same(go(client, 2, NEXT), ("goto", 9))
     same(client.ask("evaluate", expression="info breakpoints", context="repl")["result"], "none")
     same(client.refused("goto", threadId=1, targetId=8), ENDED)
     same(client.event("stopped")["text"], ENDED)
