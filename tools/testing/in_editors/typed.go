@@ -213,7 +213,7 @@ func findsWhatSpoils(c *client, source string) {
 	c.begin(source)
 	c.stop("entry", 4)
 	ask[*dap.ContinueResponse](c, "continue", &dap.ContinueRequest{Arguments: dap.ContinueArguments{ThreadId: thread}})
-	c.stop("step", 0)
+	c.stop("step", 9)
 	c.value("total", "-15")
 	asked := dap.DataBreakpointInfoArguments{Name: "total"}
 	info := ask[*dap.DataBreakpointInfoResponse](c, "dataBreakpointInfo", &dap.DataBreakpointInfoRequest{Arguments: asked}).Body
