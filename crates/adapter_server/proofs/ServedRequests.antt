@@ -79,7 +79,7 @@ module _ {M : Type 0} (stands : M → Setting → Debugger → Type 0) where
     follows_nothing asked run = inl refl
 
     alone : (asked : Request) (run : Run M) → MayFollow stands setup asked run run
-    alone request.Initialize run = refl
+    alone (request.Initialize hears) run = refl
     alone (request.Launch launch) run = refl
     alone (request.SetBreakpoints source lines) run = refl
     alone (request.SetFunctionBreakpoints functions) run = refl
