@@ -96,7 +96,7 @@ CALLS = {
     "adapter_messages::output_body": 0,
     "adapter_paths::is_same_file": 0,
     "adapter_replies::reply_to": 1,
-    "adapter_replies::reply_at_end": 0,
+    "adapter_replies::reply_at_end": 1,
     "adapter_replies::opened_expression": 0,
     "adapter_replies::expression_variables": 0,
     "adapter_replies::exception_reply": 0,
