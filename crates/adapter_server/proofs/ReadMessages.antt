@@ -12,6 +12,7 @@ use Rattle.adapter_frames.specs.declared.reading.FrameFault.TheVariants.{Head, U
 use Rattle.adapter_frames.specs.Reading as frames
 use Rattle.adapter_frames.specs.Reading.{Fails}
 use Rattle.adapter_server.specs.declared.connection.Connection.{Connection}
+use Rattle.adapter_server.specs.declared.files.FileNumber.{FileNumber}
 use Rattle.adapter_server.specs.Serving.{Answers, Come, LetsGo, Reads, ReadsJson, Run, Serves, Setup, messages_of, unread}
 
 pub lets_nothing_go : (known : Option Bytes) → LetsGo known known
@@ -58,33 +59,33 @@ pub ended_at : {T E : Type 0} (P : T → Type 0) (Q : Type 0) (r : Result T E) (
 ended_at P Q (Ok x) S is q = absurd is
 ended_at P Q (Err e) S is q = q
 
-module _ {M : Type 0} (stands : M → Setting → Debugger → Type 0) (setup : Setup) where
+module _ {M : Type 0} (stands : M → Setting → Debugger → Type 0) (leads : Bytes → Option FileNumber → Type 0) (setup : Setup) where
   -- one message more
-  come_more : (messages : List Data) (a b c : Option Bytes) (message : Data) (old middle new : Run M) → Come stands setup messages a b old middle → ReadsJson b c message → Answers stands setup message middle new
-      → Come stands setup (messages ++ message ∷ []) a c old new
+  come_more : (messages : List Data) (a b c : Option Bytes) (message : Data) (old middle new : Run M) → Come stands leads setup messages a b old middle → ReadsJson b c message → Answers stands leads setup message middle new
+      → Come stands leads setup (messages ++ message ∷ []) a c old new
   come_more [] a b c message old middle new (go, same) reads answers =
-      (c, new, reads_behind a b c message go reads, subst (λ run. Answers stands setup message run new) same answers, (lets_nothing_go c, refl))
+      (c, new, reads_behind a b c message go reads, subst (λ run. Answers stands leads setup message run new) same answers, (lets_nothing_go c, refl))
   come_more (first ∷ messages) a b c message old middle new (after, between, read, does, others) reads answers =
       (after, between, read, does, come_more messages after b c message between middle new others reads answers)
 
   -- bytes behind are let go
-  come_end : (messages : List Data) (a b c : Option Bytes) (old new : Run M) → Come stands setup messages a b old new → LetsGo b c → Come stands setup messages a c old new
+  come_end : (messages : List Data) (a b c : Option Bytes) (old new : Run M) → Come stands leads setup messages a b old new → LetsGo b c → Come stands leads setup messages a c old new
   come_end [] a b c old new (go, same) more = (lets_more_go a b c go more, same)
   come_end (first ∷ messages) a b c old new (after, between, read, does, others) more = (after, between, read, does, come_end messages after b c between new others more)
 
   -- bytes are let go, and nothing is done
-  pub serves_nothing : (a b : Option Bytes) (run : Run M) → LetsGo a b → Serves stands setup a b run run
+  pub serves_nothing : (a b : Option Bytes) (run : Run M) → LetsGo a b → Serves stands leads setup a b run run
   serves_nothing a b run go = record { messages = []; come = (go, refl) }
 
-  pub serves_end : (a b c : Option Bytes) (old new : Run M) → Serves stands setup a b old new → LetsGo b c → Serves stands setup a c old new
+  pub serves_end : (a b c : Option Bytes) (old new : Run M) → Serves stands leads setup a b old new → LetsGo b c → Serves stands leads setup a c old new
   serves_end a b c old new serves go = record { messages = serves.messages; come = come_end serves.messages a b c old new serves.come go }
 
   -- a message was read and answered
-  pub serves_answer : {R O : Type 0} (left : R → Option Bytes) (start : Option Bytes) (a b c : Connection R O) (by : Setup) (message : Data) (old middle new : Run M) → Serves stands setup start (unread left a) old middle
-      → ReadsJson (unread left a) (unread left b) message → by ≡ setup → Answers stands by message middle new → messages_of c ≡ messages_of b → Serves stands setup start (unread left c) old new
+  pub serves_answer : {R O : Type 0} (left : R → Option Bytes) (start : Option Bytes) (a b c : Connection R O) (by : Setup) (message : Data) (old middle new : Run M) → Serves stands leads setup start (unread left a) old middle
+      → ReadsJson (unread left a) (unread left b) message → by ≡ setup → Answers stands leads by message middle new → messages_of c ≡ messages_of b → Serves stands leads setup start (unread left c) old new
   serves_answer left start a b c by message old middle new serves reads is answers same =
-      let more : Serves stands setup start (unread left b) old new = record {
+      let more : Serves stands leads setup start (unread left b) old new = record {
         messages = serves.messages ++ message ∷ [];
-        come = come_more serves.messages start (unread left a) (unread left b) message old middle new serves.come reads (subst (λ x. Answers stands x message middle new) is answers);
+        come = come_more serves.messages start (unread left a) (unread left b) message old middle new serves.come reads (subst (λ x. Answers stands leads x message middle new) is answers);
       } in
-      subst (λ messages. Serves stands setup start (frames.unread left messages) old new) (sym same) more
+      subst (λ messages. Serves stands leads setup start (frames.unread left messages) old new) (sym same) more

@@ -12,8 +12,9 @@ use Rattle.adapter_session.specs.declared.beginning.Beginning.{Beginning}
 use Rattle.adapter_session.specs.declared.terms.Terms.{Terms as GivenTerms}
 use Rattle.adapter_session.specs.Done.{DoesRequest}
 use Rattle.adapter_session.specs.Terms.{terms_of}
+use Rattle.adapter_server.specs.declared.files.FileNumber.{FileNumber}
 use Rattle.adapter_server.specs.Serving.{Answers, Asks, AsksHere, Begins, BeginsBy, DoesOne, Follows, GoesUnless, IsAsked, MayDo, MayFollow, Run, Setup, run_of}
-use Rattle.adapter_server.specs.Spelling.{path_for}
+use Rattle.adapter_server.specs.Spelling.{IsPathFor}
 use Rattle.serde_json.specs.Data.{Data}
 
 -- what holds where nothing failed, of what always holds, and of what follows from it
@@ -72,10 +73,10 @@ module _ {M : Type 0} (stands : M → Setting → Debugger → Type 0) where
         subst (λ b. BeginsBy stands b Goes old middle) (sym runs)
         (record { beginning = beginning; middle = middle; asks = asked; goes = goes_nowhere beginning.first middle nowhere })
 
-  module _ (setup : Setup) where
+  module _ (leads : Bytes → Option FileNumber → Type 0) (setup : Setup) where
     -- ---- a request that comes to nothing, or is done
 
-    pub follows_nothing : (asked : Request) (run : Run M) → Follows stands setup asked run run
+    pub follows_nothing : (asked : Request) (run : Run M) → Follows stands leads setup asked run run
     follows_nothing asked run = inl refl
 
     alone : (asked : Request) (run : Run M) → MayFollow stands setup asked run run
@@ -111,25 +112,27 @@ module _ {M : Type 0} (stands : M → Setting → Debugger → Type 0) where
     alone request.Disconnect run = refl
     alone (request.Unknown name) run = refl
 
-    pub follows_asking : {T E : Type 0} (asked : Request) (old new : Run M) (result : Result T E) → Asks stands (path_for setup.program asked) asked old new result → Follows stands setup asked old new
-    follows_asking asked old new (Ok reply) does = inr (record { middle = new; does = does; follows = alone asked new })
-    follows_asking asked old new (Err error) same = inl same
+    pub follows_asking : {T E : Type 0} (asked : Request) (path : Bytes) (old new : Run M) (result : Result T E) → IsPathFor leads setup.program asked path → Asks stands path asked old new result → Follows stands leads setup asked old new
+    follows_asking asked path old new (Ok reply) is_path does = inr (record { path = path; is_path = is_path; middle = new; does = does; follows = alone asked new })
+    follows_asking asked path old new (Err error) is_path same = inl same
 
     -- a run that begins behind `configurationDone`
-    pub follows_beginning : {T E : Type 0} (asked : Request) (old middle new : Run M) (result : Result T E) (reply : T) → asked ≡ request.ConfigurationDone → result ≡ Ok reply → Asks stands (path_for setup.program asked) asked old middle result
-        → Begins stands setup middle new → Follows stands setup asked old new
-    follows_beginning asked old middle new result reply is ok does begins =
+    pub follows_beginning : {T E : Type 0} (asked : Request) (path : Bytes) (old middle new : Run M) (result : Result T E) (reply : T) → asked ≡ request.ConfigurationDone → result ≡ Ok reply → IsPathFor leads setup.program asked path → Asks stands path asked old middle result
+        → Begins stands setup middle new → Follows stands leads setup asked old new
+    follows_beginning asked path old middle new result reply is ok is_path does begins =
         inr (record {
+          path = path;
+          is_path = is_path;
           middle = middle;
-          does = does_one (path_for setup.program asked) asked old middle result reply ok does;
+          does = does_one path asked old middle result reply ok does;
           follows = subst (λ a. MayFollow stands setup a middle new) (sym is) (inr begins);
         })
 
     -- ---- a message
 
-    pub answers_nothing : (message : Data) (run : Run M) → Answers stands setup message run run
+    pub answers_nothing : (message : Data) (run : Run M) → Answers stands leads setup message run run
     answers_nothing message run = inl refl
 
-    pub answers_following : (message : Data) (asked : Request) (old new : Run M) → IsAsked message asked → Follows stands setup asked old new → Answers stands setup message old new
+    pub answers_following : (message : Data) (asked : Request) (old new : Run M) → IsAsked message asked → Follows stands leads setup asked old new → Answers stands leads setup message old new
     answers_following message asked old new is (inl same) = inl same
     answers_following message asked old new is (inr does) = inr (asked, is, does)

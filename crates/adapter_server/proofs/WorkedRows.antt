@@ -1,18 +1,23 @@
 -- Rows that the check computes from the definitions: two texts were written, and a third is left out; stops and changes that are told; what lines do; the bytes of events;
--- two texts open, and no third one.
-use Rattle.std.proofs.Common.{◌≡◌, refl, ap, if◌then◌else◌, ℕ, true, false, List, [], ◌∷◌, ◌++◌, codes, Some, None}
+-- two texts open, and no third one; and paths that lead to one file, to another and to none.
+use Rattle.std.proofs.Common.{◌≡◌, ◌∙◌, refl, ap, if◌then◌else◌, ℕ, Bool, true, false, List, [], ◌∷◌, ◌++◌, codes, Option, Some, None}
+use Rattle.std.specs.Prelude.{◌||◌, bytes_eq}
 use Rattle.std.specs.Fmt.{digits}
+use Rattle.std.specs.Path.{path_components, path_names}
 use Rattle.serde_json.proofs.OnLiterals.{serde_json_on_literals}
 use Rattle.adapter_requests.specs.declared.reply.StopReason.TheVariants as reason
 use Rattle.std.specs.Borrow.{Bor}
 use Rattle.adapter_requests.specs.declared.reply.Reply.{Reply}
 use Rattle.adapter_requests.specs.declared.reply.Reply.TheVariants as reply
 use Rattle.adapter_requests.specs.declared.request.Request.TheVariants as request
+use Rattle.adapter_paths.specs.Ways.{is_same_file}
 use Rattle.adapter_server.specs.declared.effects.Effect.TheVariants as effect
+use Rattle.adapter_server.specs.declared.files.FileNumber.{FileNumber}
 use Rattle.adapter_server.specs.Effects.{line_effect}
 use Rattle.adapter_server.specs.Events.{Says, Stops, Changes, Ends, change_events, last_stop, tells_value}
 use Rattle.adapter_server.specs.Opening.{text_at}
 use Rattle.adapter_server.specs.Sending.{events_bytes}
+use Rattle.adapter_server.specs.Spelling.{IsFound, IsPathBy, IsPathIf, are_one}
 use Rattle.adapter_server.specs.Writing.{console_line, console_lines}
 
 two_texts : console_lines (record { texts = codes "1" ∷ codes "2" ∷ []; is_cut = false }) ≡ (49 ∷ 10 ∷ []) ∷ (50 ∷ 10 ∷ []) ∷ []
@@ -83,3 +88,37 @@ no_third = refl
 no_expression : text_at 31 two_open ≡ None
 unfolding two_open
 no_expression = refl
+
+-- ---- `/a` and its link `/b` lead to a file, `/c` to another one, and nothing else to any
+
+file_of : (path : List ℕ) → Option FileNumber
+file_of path = if bytes_eq path (codes "/a") || bytes_eq path (codes "/b") then Some (record { device = 1; number = 7 }) else (if bytes_eq path (codes "/c") then Some (record { device = 1; number = 8 }) else None)
+
+found_so : (program source path : List ℕ) → IsFound (λ p file. file ≡ file_of p) program source path → path ≡ (if are_one (file_of program) (file_of source) then source else program)
+found_so program source path found =
+    found.path_is ∙ ap (λ file. if are_one file found.of_source then source else program) found.program_leads
+    ∙ ap (λ file. if are_one (file_of program) file then source else program) found.source_leads
+
+by_a_link : (path : List ℕ) → IsPathBy (λ p file. file ≡ file_of p) (codes "/a") (codes "/b") path → path ≡ codes "/b"
+unfolding file_of path_components path_names
+by_a_link path is = found_so (codes "/a") (codes "/b") path is
+
+by_its_file : (path : List ℕ) → IsPathBy (λ p file. file ≡ file_of p) (codes "/b") (codes "/a") path → path ≡ codes "/a"
+unfolding file_of path_components path_names
+by_its_file path is = found_so (codes "/b") (codes "/a") path is
+
+to_another_file : (path : List ℕ) → IsPathBy (λ p file. file ≡ file_of p) (codes "/a") (codes "/c") path → path ≡ codes "/a"
+unfolding file_of path_components path_names
+to_another_file path is = found_so (codes "/a") (codes "/c") path is
+
+to_no_file : (path : List ℕ) → IsPathBy (λ p file. file ≡ file_of p) (codes "/a") (codes "/d") path → path ≡ codes "/a"
+unfolding file_of path_components path_names
+to_no_file path is = found_so (codes "/a") (codes "/d") path is
+
+-- where no file is found, the spellings alone say which path it is
+by_the_spellings : (is_spelled_so : Bool) (program source path : List ℕ) → IsPathIf is_spelled_so (λ p file. file ≡ None) program source path → path ≡ (if is_spelled_so then source else program)
+by_the_spellings true program source path is = is
+by_the_spellings false program source path found = found.path_is ∙ ap (λ file. if are_one file found.of_source then source else program) found.program_leads
+
+nothing_found : (program source path : List ℕ) → IsPathBy (λ p file. file ≡ None) program source path → path ≡ (if is_same_file program source then source else program)
+nothing_found program source path is = by_the_spellings (is_same_file program source) program source path is

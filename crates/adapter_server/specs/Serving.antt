@@ -29,8 +29,9 @@ use Rattle.adapter_session.specs.Done.{DoesRequest}
 use Rattle.adapter_session.specs.Restored.{CanKeepNumbers, numbers, restored, stop_commands, terms_anew}
 use Rattle.adapter_session.specs.Terms.{Terms, terms_of}
 use Rattle.adapter_server.specs.declared.connection.Connection.{Connection}
+use Rattle.adapter_server.specs.declared.files.FileNumber.{FileNumber}
 use Rattle.adapter_server.specs.declared.launching.LaunchMessage.{LaunchMessage}
-use Rattle.adapter_server.specs.Spelling.{path_for}
+use Rattle.adapter_server.specs.Spelling.{IsPathFor}
 
 -- the path of the program that a launch names
 abbrev pub path_of : LaunchMessage → Bytes
@@ -120,15 +121,18 @@ abbrev pub MayFollow : {M : Type 0} → (M → Setting → Debugger → Type 0) 
 MayFollow stands setup request.ConfigurationDone old new = (new ≡ old) ⊎ Begins stands setup old new
 MayFollow stands setup other old new = new ≡ old
 
--- a request was done, which knows the program by the path of its source, where this is the program's, and what may follow it
-pub record DoesAll {M : Type 0} (stands : M → Setting → Debugger → Type 0) (setup : Setup) (request : Request) (old new : Run M) : Type 0 where
+-- a request was done, which knows the program by the path of its source, where this is the program's, and what may follow it; `leads` says
+-- which files may be found at paths
+pub record DoesAll {M : Type 0} (stands : M → Setting → Debugger → Type 0) (leads : Bytes → Option FileNumber → Type 0) (setup : Setup) (request : Request) (old new : Run M) : Type 0 where
+  pub path : Bytes
+  pub is_path : IsPathFor leads setup.program request path
   pub middle : Run M
-  pub does : DoesOne stands (path_for setup.program request) request old middle
+  pub does : DoesOne stands path request old middle
   pub follows : MayFollow stands setup request middle new
 
 -- what a request comes to: nothing, or it is done
-abbrev pub Follows : {M : Type 0} → (M → Setting → Debugger → Type 0) → Setup → Request → (old new : Run M) → Type 0
-Follows stands setup request old new = (new ≡ old) ⊎ DoesAll stands setup request old new
+abbrev pub Follows : {M : Type 0} → (M → Setting → Debugger → Type 0) → (Bytes → Option FileNumber → Type 0) → Setup → Request → (old new : Run M) → Type 0
+Follows stands leads setup request old new = (new ≡ old) ⊎ DoesAll stands leads setup request old new
 
 -- a message with a command is a request
 pub record IsAsked (message : Data) (request : Request) : Type 0 where
@@ -137,8 +141,8 @@ pub record IsAsked (message : Data) (request : Request) : Type 0 where
   pub is_request : IsRequest command message request
 
 -- what a message comes to: nothing, or the request that it is is done
-abbrev pub Answers : {M : Type 0} → (M → Setting → Debugger → Type 0) → Setup → (message : Data) → (old new : Run M) → Type 0
-Answers stands setup message old new = (new ≡ old) ⊎ ((request : Request) × IsAsked message request × DoesAll stands setup request old new)
+abbrev pub Answers : {M : Type 0} → (M → Setting → Debugger → Type 0) → (Bytes → Option FileNumber → Type 0) → Setup → (message : Data) → (old new : Run M) → Type 0
+Answers stands leads setup message old new = (new ≡ old) ⊎ ((request : Request) × IsAsked message request × DoesAll stands leads setup request old new)
 
 -- bytes in front were let go
 pub record LetsGo (old new : Option Bytes) : Type 0 where
@@ -158,15 +162,15 @@ pub record ReadsJson (old new : Option Bytes) (message : Data) : Type 0 where
   pub json : read text ≡ Some message
 
 -- messages were read one after another, and each came to what it comes to
-abbrev pub Come : {M : Type 0} → (M → Setting → Debugger → Type 0) → Setup → List Data → (old_unread new_unread : Option Bytes) → (old new : Run M) → Type 0
-Come stands setup [] old_unread new_unread old new = LetsGo old_unread new_unread × (new ≡ old)
-Come stands setup (message ∷ messages) old_unread new_unread old new =
-    (after : Option Bytes) × (middle : Run _) × ReadsJson old_unread after message × Answers stands setup message old middle × Come stands setup messages after new_unread middle new
+abbrev pub Come : {M : Type 0} → (M → Setting → Debugger → Type 0) → (Bytes → Option FileNumber → Type 0) → Setup → List Data → (old_unread new_unread : Option Bytes) → (old new : Run M) → Type 0
+Come stands leads setup [] old_unread new_unread old new = LetsGo old_unread new_unread × (new ≡ old)
+Come stands leads setup (message ∷ messages) old_unread new_unread old new =
+    (after : Option Bytes) × (middle : Run _) × ReadsJson old_unread after message × Answers stands leads setup message old middle × Come stands leads setup messages after new_unread middle new
 
 -- there are messages that were read one after another, and what they come to, and nothing else, was done
-pub record Serves {M : Type 0} (stands : M → Setting → Debugger → Type 0) (setup : Setup) (old_unread new_unread : Option Bytes) (old new : Run M) : Type 0 where
+pub record Serves {M : Type 0} (stands : M → Setting → Debugger → Type 0) (leads : Bytes → Option FileNumber → Type 0) (setup : Setup) (old_unread new_unread : Option Bytes) (old new : Run M) : Type 0 where
   pub messages : List Data
-  pub come : Come stands setup messages old_unread new_unread old new
+  pub come : Come stands leads setup messages old_unread new_unread old new
 
 -- a session has the breakpoints and watches of another one made anew in its own program, with the conditions and counts that were asked for
 pub record Restores {M : Type 0} (stands : M → Setting → Debugger → Type 0) (other : Session M) (old new : Run M) : Type 0 where
@@ -178,9 +182,9 @@ pub record Restores {M : Type 0} (stands : M → Setting → Debugger → Type 0
       → CanKeepNumbers t e d.stops → numbers f.stops ≡ restored t old.terms.functions d.stops e []
 
 -- the breakpoints and watches of another session were made anew, the run may have begun, and then messages were served
-pub record ServesAnew {M : Type 0} (stands : M → Setting → Debugger → Type 0) (setup : Setup) (old_unread new_unread : Option Bytes) (other : Session M) (old new : Run M) : Type 0 where
+pub record ServesAnew {M : Type 0} (stands : M → Setting → Debugger → Type 0) (leads : Bytes → Option FileNumber → Type 0) (setup : Setup) (old_unread new_unread : Option Bytes) (other : Session M) (old new : Run M) : Type 0 where
   pub restored : Run M
   pub begun : Run M
   pub restores : Restores stands other old restored
   pub begins : (begun ≡ restored) ⊎ Begins stands setup restored begun
-  pub serves : Serves stands setup old_unread new_unread begun new
+  pub serves : Serves stands leads setup old_unread new_unread begun new

@@ -17,10 +17,11 @@ use Rattle.adapter_session.specs.declared.answering.Answered.{Answered}
 use Rattle.adapter_session.specs.declared.beginning.Beginning.{Beginning}
 use Rattle.adapter_session.specs.Done.{DoesRequest}
 use Rattle.adapter_server.specs.declared.connection.Connection.{Connection}
+use Rattle.adapter_server.specs.declared.files.FileNumber.{FileNumber}
 use Rattle.adapter_server.specs.Events.{events_at_beginning, events_behind, events_on_entry}
 use Rattle.adapter_server.specs.Sending.{Sends, given, number_behind}
 use Rattle.adapter_server.specs.Serving.{AsksHere, Run, Setup}
-use Rattle.adapter_server.specs.Spelling.{path_for}
+use Rattle.adapter_server.specs.Spelling.{IsPathFor}
 use Rattle.adapter_server.specs.Threads.{IsToldAside}
 
 -- ---- a request
@@ -79,16 +80,18 @@ MayTellBeginning stands contents seen setup asked before after old new =
     ((asked ≢ request.ConfigurationDone) × (after ≡ before) × (new ≡ old)) ⊎ ((asked ≡ request.ConfigurationDone) × TellsBeginning stands contents seen setup.program setup.stops_on_entry before after old new)
 
 -- its reply is sent, then the events behind it, and then those of the beginning
-pub record TellsAnswer {M R O : Type 0} (stands : M → Setting → Debugger → Type 0) (contents : O → Option Bytes) (seen : Threads) (setup : Setup) (asked : Request) (before after : Connection R O) (old new : Run M) : Type 0 where
+pub record TellsAnswer {M R O : Type 0} (stands : M → Setting → Debugger → Type 0) (leads : Bytes → Option FileNumber → Type 0) (contents : O → Option Bytes) (seen : Threads) (setup : Setup) (asked : Request) (before after : Connection R O) (old new : Run M) : Type 0 where
   pub message : ℕ → Data
   pub replied : Connection R O
   pub told : Connection R O
   pub middle : Run M
   pub reply : SendsReply contents before replied message
-  pub one : TellsOne stands contents seen (path_for setup.program asked) asked replied told old middle
+  pub path : Bytes
+  pub is_path : IsPathFor leads setup.program asked path
+  pub one : TellsOne stands contents seen path asked replied told old middle
   pub begins : MayTellBeginning stands contents seen setup asked told after middle new
 
 -- a restart is not answered yet
-abbrev pub Tells : {M R O : Type 0} → (M → Setting → Debugger → Type 0) → (O → Option Bytes) → Threads → Setup → Request → (before after : Connection R O) → (old new : Run M) → Type 0
-Tells stands contents seen setup asked before after old new =
-    (asked ≡ request.Restart) ⊎ (TellsAside stands contents seen asked before after old new ⊎ TellsAnswer stands contents seen setup asked before after old new)
+abbrev pub Tells : {M R O : Type 0} → (M → Setting → Debugger → Type 0) → (Bytes → Option FileNumber → Type 0) → (O → Option Bytes) → Threads → Setup → Request → (before after : Connection R O) → (old new : Run M) → Type 0
+Tells stands leads contents seen setup asked before after old new =
+    (asked ≡ request.Restart) ⊎ (TellsAside stands contents seen asked before after old new ⊎ TellsAnswer stands leads contents seen setup asked before after old new)

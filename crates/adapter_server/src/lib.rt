@@ -4,6 +4,7 @@
 mod connection;
 mod effects;
 mod events;
+mod files;
 mod launching;
 mod opening;
 mod serving;
@@ -13,5 +14,6 @@ mod threads;
 mod writing;
 
 pub use connection::{Connection, Ended};
+pub use files::{FileFinder, FileNumber};
 pub use launching::LaunchMessage;
 pub use serving::Served;

@@ -9,12 +9,12 @@ ghost use Rattle.adapter_session.specs.Terms.{terms_of};
 ghost use Rattle.adapter_server.specs.Events.{events_at_beginning, events_behind, events_on_entry};
 ghost use Rattle.adapter_server.specs.Sending.{Sends};
 ghost use Rattle.adapter_server.specs.Serving.{Answers, Asks, Begins, DoesOne, Follows, HasBegun, MayDo, Serves, ServesAnew, messages_of, run_of, setup_by, setup_of, unread};
-ghost use Rattle.adapter_server.specs.Spelling.{path_for};
 ghost use Rattle.adapter_server.specs.Telling.{Tells, TellsBeginning, TellsOne};
 ghost use Rattle.adapter_server.specs.Threads.{threads_of};
 
 use crate::connection::{Connection, Ended};
 use crate::events::{Told, events_at_beginning, events_behind, events_on_entry};
+use crate::files::FileFinder;
 use crate::launching::LaunchMessage;
 use crate::opening::open_answer;
 use crate::spelling::path_for;
@@ -53,18 +53,19 @@ impl<R: Read, O: Write> Connection<R, O> {
     ///
     /// How the connection ended before that.
     #[tactic(auto, using(crate::proofs::ReadMessages::serves_nothing, crate::proofs::ReadMessages::lets_nothing_go))]
-    pub fn serve<M: ExpressionMachine>(
+    pub fn serve<M: ExpressionMachine, F: FileFinder>(
         &mut self,
         launch: &LaunchMessage,
         terms: &mut Terms,
         session: &mut Session<M>,
+        files: &F,
     ) -> Result<Served, Ended>
-        ensures { Serves M.stands (setup_of launch.now) (unread R.remaining self.old) (unread R.remaining self.new)
+        ensures { Serves M.stands (F.leads files.now) (setup_of launch.now) (unread R.remaining self.old) (unread R.remaining self.new)
             (run_of session.old terms.old) (run_of session.new terms.new) }
     {
         self.reply(launch.head(), "", &Reply::Done)?;
         self.tell("initialized")?;
-        self.go_on(launch, terms, session)
+        self.go_on(launch, terms, session, files)
     }
 
     /// Answers a request to restart, once the program is run anew by a session: it gets the breakpoints and watches of the
@@ -73,14 +74,15 @@ impl<R: Read, O: Write> Connection<R, O> {
     /// # Errors
     ///
     /// How the connection ended before that.
-    pub fn restart<M: ExpressionMachine>(
+    pub fn restart<M: ExpressionMachine, F: FileFinder>(
         &mut self,
         launch: &LaunchMessage,
         old: &Session<M>,
         terms: &mut Terms,
         session: &mut Session<M>,
+        files: &F,
     ) -> Result<Served, Ended>
-        ensures { ServesAnew M.stands (setup_of launch.now) (unread R.remaining self.old) (unread R.remaining self.new) old.now
+        ensures { ServesAnew M.stands (F.leads files.now) (setup_of launch.now) (unread R.remaining self.old) (unread R.remaining self.new) old.now
             (run_of session.old terms.old) (run_of session.new terms.new) }
     {
         restore_stops(old, terms, session);
@@ -90,7 +92,7 @@ impl<R: Read, O: Write> Connection<R, O> {
             return Err(Ended::Memory);
         };
         self.begin(&asked, terms, session)?;
-        self.go_on(launch, terms, session)
+        self.go_on(launch, terms, session, files)
     }
 
     /// Refuses a request to restart, with the reason.
@@ -116,13 +118,14 @@ impl<R: Read, O: Write> Connection<R, O> {
     ///
     /// How the connection ended before that.
     #[tactic(auto, using(crate::proofs::ReadMessages::serves_nothing, crate::proofs::ReadMessages::lets_nothing_go))]
-    pub fn go_on<M: ExpressionMachine>(
+    pub fn go_on<M: ExpressionMachine, F: FileFinder>(
         &mut self,
         launch: &LaunchMessage,
         terms: &mut Terms,
         session: &mut Session<M>,
+        files: &F,
     ) -> Result<Served, Ended>
-        ensures { Serves M.stands (setup_of launch.now) (unread R.remaining self.old) (unread R.remaining self.new)
+        ensures { Serves M.stands (F.leads files.now) (setup_of launch.now) (unread R.remaining self.old) (unread R.remaining self.new)
             (run_of session.old terms.old) (run_of session.new terms.new) }
     {
         let Some(asked) = launch.launch() else {
@@ -130,7 +133,7 @@ impl<R: Read, O: Write> Connection<R, O> {
         };
         for _ in 0..u64::MAX {
             let message = self.next_value()?;
-            match self.answer(&asked, terms, session, &message)? {
+            match self.answer(&asked, terms, session, &message, files)? {
                 Turn::Goes => {}
                 Turn::Restarts => return Ok(Served::Restarts),
                 Turn::Disconnects => return Ok(Served::Disconnected),
@@ -141,14 +144,15 @@ impl<R: Read, O: Write> Connection<R, O> {
 
     /// Answers a message.
     #[tactic(auto, using(crate::proofs::ServedRequests::answers_nothing, crate::proofs::ServedRequests::answers_following))]
-    fn answer<M: ExpressionMachine>(
+    fn answer<M: ExpressionMachine, F: FileFinder>(
         &mut self,
         launch: &Launch<'_>,
         terms: &mut Terms,
         session: &mut Session<M>,
         message: &Value,
+        files: &F,
     ) -> Result<Turn, Ended>
-        ensures done { Answers M.stands (setup_by launch.now) (view message.now) (run_of session.old terms.old) (run_of session.new terms.new) }
+        ensures done { Answers M.stands (F.leads files.now) (setup_by launch.now) (view message.now) (run_of session.old terms.old) (run_of session.new terms.new) }
         ensures messages { messages_of self.new ≡ messages_of self.old }
     {
         let Some(head) = read_head(message) else {
@@ -161,22 +165,24 @@ impl<R: Read, O: Write> Connection<R, O> {
                 self.refuse(head, text.as_str())?;
                 Ok(Turn::Goes)
             }
-            Ok(request) => self.do_request(launch, terms, session, head, &request),
+            Ok(request) => self.do_request(launch, terms, session, head, &request, files),
         }
     }
 
-    /// Does a request and answers it, and tells what came of it; a restart is not answered.
+    /// Does a request, which knows the program by the path of its source where this is the program's, and answers it, and tells what came
+    /// of it; a restart is not answered.
     #[tactic(auto, using(crate::proofs::ServedRequests::follows_nothing, crate::proofs::ServedRequests::follows_asking))]
-    fn do_request<M: ExpressionMachine>(
+    fn do_request<M: ExpressionMachine, F: FileFinder>(
         &mut self,
         launch: &Launch<'_>,
         terms: &mut Terms,
         session: &mut Session<M>,
         head: Head<'_>,
         request: &Request<'_>,
+        files: &F,
     ) -> Result<Turn, Ended>
-        ensures done { Follows M.stands (setup_by launch.now) request.now (run_of session.old terms.old) (run_of session.new terms.new) }
-        ensures told { OnOk result (Tells M.stands O.contents (threads_of launch.now) (setup_by launch.now) request.now self.old self.new
+        ensures done { Follows M.stands (F.leads files.now) (setup_by launch.now) request.now (run_of session.old terms.old) (run_of session.new terms.new) }
+        ensures told { OnOk result (Tells M.stands (F.leads files.now) O.contents (threads_of launch.now) (setup_by launch.now) request.now self.old self.new
             (run_of session.old terms.old) (run_of session.new terms.new)) }
         ensures messages { messages_of self.new ≡ messages_of self.old }
     {
@@ -196,7 +202,8 @@ impl<R: Read, O: Write> Connection<R, O> {
             self.reply(head, launch.program, &reply)?;
             return Ok(Turn::Goes);
         }
-        let answered = ask_for(self.alloc, launch.program, terms, session, request)?;
+        let path = path_for(self.alloc, files, launch.program, request)?;
+        let answered = ask(self.alloc, path, terms, session, request)?;
         let told = open_answer(self.alloc, session, request, &mut self.opened, answered);
         self.reply(head, launch.program, &told.reply)?;
         self.tell_of(launch, session, request, &told)?;
@@ -306,22 +313,6 @@ impl<R: Read, O: Write> Connection<R, O> {
         let events = events_at_beginning(self.alloc, launch, session, beginning)?;
         self.tell_events(events.as_slice())
     }
-}
-
-/// Does a request, which knows the program by the path of its source, where this is the program's.
-fn ask_for<M: ExpressionMachine>(
-    alloc: Global,
-    program: &str,
-    terms: &mut Terms,
-    session: &mut Session<M>,
-    request: &Request<'_>,
-) -> Result<Answered, AllocError>
-    ensures asked { Asks M.stands (path_for program.now request.now) request.now (run_of session.old terms.old) (run_of session.new terms.new) result }
-    ensures done { (s : Setting) (d : Debugger) → StandsFor M.stands session.old s d
-        → IfOk result (λ answered. DoesRequest M.stands s (path_for program.now request.now) request.now d (terms_of terms.old) answered session.new (terms_of terms.new)) }
-{
-    let path = path_for(alloc, program, request)?;
-    ask(alloc, path, terms, session, request)
 }
 
 /// Does a request.

@@ -1,5 +1,6 @@
 //! Files, and the fronts of them that are read.
 use crate::refusing::{refuse, refuse_file};
+use adapter_server::{FileFinder, FileNumber};
 use debug_inputs::MOST_BYTES as MOST_INPUT;
 use ispc_refusals::Refusal;
 use ispc_script::MOST_BYTES;
@@ -46,9 +47,35 @@ pub(crate) fn is_one_file(rt: &HostRuntime, one: &str, other: &str) -> bool {
     if one == other {
         return true;
     }
-    match (fs::metadata(rt, one), fs::metadata(rt, other)) {
-        (Ok(one), Ok(other)) => one.dev() == other.dev() && one.ino() == other.ino(),
-        (Ok(_), Err(_)) | (Err(_), _) => false,
+    match (file_at(rt, one), file_at(rt, other)) {
+        (Some(one), Some(other)) => one == other,
+        (Some(_), None) | (None, _) => false,
+    }
+}
+
+/// The file that a path leads to; none where there is none, or it is not to be found.
+fn file_at(rt: &HostRuntime, path: &str) -> Option<FileNumber> {
+    match fs::metadata(rt, path) {
+        Ok(metadata) => Some(FileNumber {
+            device: metadata.dev(),
+            number: metadata.ino(),
+        }),
+        Err(_) => None,
+    }
+}
+
+/// The files of the system.
+#[derive(Drop)]
+pub(crate) struct SystemFiles<'a> {
+    pub(crate) rt: &'a HostRuntime,
+}
+
+impl FileFinder for SystemFiles<'_> {
+    // The system may tell any, and another one at another time.
+    ghost leads = { λ files path file. Unit {0} };
+
+    fn file_at(&self, path: &str) -> Option<FileNumber> {
+        file_at(self.rt, path)
     }
 }
 

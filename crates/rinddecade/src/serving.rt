@@ -3,7 +3,7 @@ ghost use Rattle.std.specs.Prelude.{◌≡◌, ◌≤◌, IfSome};
 ghost use Rattle.ispc_options.specs.Ranges.{AreInRange};
 ghost use Rattle.ispc_debugger.specs.Runs.{lanes_of};
 
-use crate::files::file_front;
+use crate::files::{SystemFiles, file_front};
 use crate::refused_launches::{
     MOST_HISTORY, MOST_STEPS, Unread, number_text, refusal_text, unread_text,
 };
@@ -158,9 +158,10 @@ fn serve_session<const W: usize, R: Read + Drop, O: Write + Drop>(
     requires width { W ≡ lanes_of options.now.width }
     requires range { AreInRange options.now }
 {
+    let files = SystemFiles { rt };
     let mut session = session;
     let mut terms = Terms::new();
-    let mut served = connection.serve(message, &mut terms, &mut session)?;
+    let mut served = connection.serve(message, &mut terms, &mut session, &files)?;
     for _ in 0..u64::MAX {
         if served == Served::Disconnected {
             break;
@@ -168,10 +169,10 @@ fn serve_session<const W: usize, R: Read + Drop, O: Write + Drop>(
         match open_launch::<W>(rt, launch, options)? {
             Opened::Refused(text) => {
                 connection.refuse_restart(text.as_str())?;
-                served = connection.go_on(message, &mut terms, &mut session)?;
+                served = connection.go_on(message, &mut terms, &mut session, &files)?;
             }
             Opened::Session(mut next) => {
-                served = connection.restart(message, &session, &mut terms, &mut next)?;
+                served = connection.restart(message, &session, &mut terms, &mut next, &files)?;
                 session = next;
             }
         }

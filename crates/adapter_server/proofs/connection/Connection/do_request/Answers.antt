@@ -1,6 +1,5 @@
 use Rattle.std.proofs.Common.{◌∙◌, inl, inr, refl}
 use Rattle.adapter_server.specs.Serving.{run_of, setup_by}
-use Rattle.adapter_server.specs.Spelling.{path_for}
 use Rattle.adapter_server.specs.Threads.{threads_of}
 use Rattle.adapter_server.proofs.ServedRequests.{follows_asking, follows_beginning}
 use Rattle.adapter_server.proofs.ToldEvents.{replied_same, sent_same}
@@ -8,13 +7,13 @@ use Rattle.adapter_server.proofs.connection.Connection.do_request.Goals as goal
 
 pub returns-in_err-begin-in-ConfigurationDone-clause-done : goal.returns-in_err-begin-in-ConfigurationDone-clause-done
 returns-in_err-begin-in-ConfigurationDone-clause-done g c =
-    follows_beginning g.M.RecordedMachine.stands (setup_by c.args.launch.now) c.args.request.now (run_of c.args.session.now c.args.terms.now) (run_of c.ask_for.new.session c.ask_for.new.terms) (run_of c.begin.new.session c.begin.new.terms)
-    c.ask_for.result c.in_ok-answered.answered c.in-ConfigurationDone.is c.in_ok-answered.was c.ask_for.ensures.asked c.begin.ensures.done
+    follows_beginning g.M.RecordedMachine.stands (g.F.FileFinder.leads c.args.files.now) (setup_by c.args.launch.now) c.args.request.now c.in_ok-path.path.now (run_of c.args.session.now c.args.terms.now) (run_of c.ask.new.session c.ask.new.terms) (run_of c.begin.new.session c.begin.new.terms)
+    c.ask.result c.in_ok-answered.answered c.in-ConfigurationDone.is c.in_ok-answered.was c.in_ok-path.ensures c.ask.ensures.asked c.begin.ensures.done
 
 pub returns-in-ConfigurationDone-clause-done : goal.returns-in-ConfigurationDone-clause-done
 returns-in-ConfigurationDone-clause-done g c =
-    follows_beginning g.M.RecordedMachine.stands (setup_by c.args.launch.now) c.args.request.now (run_of c.args.session.now c.args.terms.now) (run_of c.ask_for.new.session c.ask_for.new.terms) (run_of c.begin.new.session c.begin.new.terms)
-    c.ask_for.result c.in_ok-answered.answered c.in-ConfigurationDone.is c.in_ok-answered.was c.ask_for.ensures.asked c.begin.ensures.done
+    follows_beginning g.M.RecordedMachine.stands (g.F.FileFinder.leads c.args.files.now) (setup_by c.args.launch.now) c.args.request.now c.in_ok-path.path.now (run_of c.args.session.now c.args.terms.now) (run_of c.ask.new.session c.ask.new.terms) (run_of c.begin.new.session c.begin.new.terms)
+    c.ask.result c.in_ok-answered.answered c.in-ConfigurationDone.is c.in_ok-answered.was c.in_ok-path.ensures c.ask.ensures.asked c.begin.ensures.done
 
 pub returns-in-ConfigurationDone-clause-told : goal.returns-in-ConfigurationDone-clause-told
 returns-in-ConfigurationDone-clause-told g c =
@@ -22,13 +21,15 @@ returns-in-ConfigurationDone-clause-told g c =
       message = _;
       replied = c.reply-2.new.self;
       told = c.tell_of.new.self;
-      middle = run_of c.ask_for.new.session c.ask_for.new.terms;
+      middle = run_of c.ask.new.session c.ask.new.terms;
       reply = replied_same g.O.Write.contents c.args.self.now c.reply-2.new.self c.open_answer-told.new.texts _ c.in_ok-reply-3.ensures.sent;
+      path = c.in_ok-path.path.now;
+      is_path = c.in_ok-path.ensures;
       one = record {
         answered = c.in_ok-answered.answered;
         does = c.in_ok-answered.ensures.done;
-        sends = sent_same g.M.RecordedMachine.stands g.O.Write.contents (threads_of c.args.launch.now) (path_for c.args.launch.now.program.now c.args.request.now) c.args.request.now c.reply-2.new.self c.tell_of.new.self
-            (run_of c.ask_for.new.session c.ask_for.new.terms) c.open_answer-told.result c.in_ok-answered.answered (λ s d. c.open_answer-told.ensures.events (threads_of c.args.launch.now) c.reply-2.new.self.hears_changes s d c.reply-2.new.self.stopped) c.in_ok-tell_of.ensures.told;
+        sends = sent_same g.M.RecordedMachine.stands g.O.Write.contents (threads_of c.args.launch.now) c.in_ok-path.path.now c.args.request.now c.reply-2.new.self c.tell_of.new.self
+            (run_of c.ask.new.session c.ask.new.terms) c.open_answer-told.result c.in_ok-answered.answered (λ s d. c.open_answer-told.ensures.events (threads_of c.args.launch.now) c.reply-2.new.self.hears_changes s d c.reply-2.new.self.stopped) c.in_ok-tell_of.ensures.told;
       };
       begins = inr (c.in-ConfigurationDone.is, c.in_ok-begin-in-ConfigurationDone.ensures.told);
     }))
@@ -38,21 +39,21 @@ returns-in-ConfigurationDone-clause-messages g c = c.begin.ensures.messages ∙ 
 
 pub returns-in_err-reply-3-clause-done : goal.returns-in_err-reply-3-clause-done
 returns-in_err-reply-3-clause-done g c =
-    follows_asking g.M.RecordedMachine.stands (setup_by c.args.launch.now) c.args.request.now (run_of c.args.session.now c.args.terms.now) (run_of c.ask_for.new.session c.ask_for.new.terms) c.ask_for.result c.ask_for.ensures.asked
+    follows_asking g.M.RecordedMachine.stands (g.F.FileFinder.leads c.args.files.now) (setup_by c.args.launch.now) c.args.request.now c.in_ok-path.path.now (run_of c.args.session.now c.args.terms.now) (run_of c.ask.new.session c.ask.new.terms) c.ask.result c.in_ok-path.ensures c.ask.ensures.asked
 
 pub returns-in_err-reply-3-clause-messages : goal.returns-in_err-reply-3-clause-messages
 returns-in_err-reply-3-clause-messages g c = c.reply-2.ensures.messages
 
 pub returns-in_err-tell_of-clause-done : goal.returns-in_err-tell_of-clause-done
 returns-in_err-tell_of-clause-done g c =
-    follows_asking g.M.RecordedMachine.stands (setup_by c.args.launch.now) c.args.request.now (run_of c.args.session.now c.args.terms.now) (run_of c.ask_for.new.session c.ask_for.new.terms) c.ask_for.result c.ask_for.ensures.asked
+    follows_asking g.M.RecordedMachine.stands (g.F.FileFinder.leads c.args.files.now) (setup_by c.args.launch.now) c.args.request.now c.in_ok-path.path.now (run_of c.args.session.now c.args.terms.now) (run_of c.ask.new.session c.ask.new.terms) c.ask.result c.in_ok-path.ensures c.ask.ensures.asked
 
 pub returns-in_err-tell_of-clause-messages : goal.returns-in_err-tell_of-clause-messages
 returns-in_err-tell_of-clause-messages g c = c.tell_of.ensures.messages ∙ c.reply-2.ensures.messages
 
 pub returns-in-Disconnect-clause-done : goal.returns-in-Disconnect-clause-done
 returns-in-Disconnect-clause-done g c =
-    follows_asking g.M.RecordedMachine.stands (setup_by c.args.launch.now) c.args.request.now (run_of c.args.session.now c.args.terms.now) (run_of c.ask_for.new.session c.ask_for.new.terms) c.ask_for.result c.ask_for.ensures.asked
+    follows_asking g.M.RecordedMachine.stands (g.F.FileFinder.leads c.args.files.now) (setup_by c.args.launch.now) c.args.request.now c.in_ok-path.path.now (run_of c.args.session.now c.args.terms.now) (run_of c.ask.new.session c.ask.new.terms) c.ask.result c.in_ok-path.ensures c.ask.ensures.asked
 
 pub returns-in-Disconnect-clause-told : goal.returns-in-Disconnect-clause-told
 returns-in-Disconnect-clause-told g c =
@@ -60,13 +61,15 @@ returns-in-Disconnect-clause-told g c =
       message = _;
       replied = c.reply-2.new.self;
       told = c.tell_of.new.self;
-      middle = run_of c.ask_for.new.session c.ask_for.new.terms;
+      middle = run_of c.ask.new.session c.ask.new.terms;
       reply = replied_same g.O.Write.contents c.args.self.now c.reply-2.new.self c.open_answer-told.new.texts _ c.in_ok-reply-3.ensures.sent;
+      path = c.in_ok-path.path.now;
+      is_path = c.in_ok-path.ensures;
       one = record {
         answered = c.in_ok-answered.answered;
         does = c.in_ok-answered.ensures.done;
-        sends = sent_same g.M.RecordedMachine.stands g.O.Write.contents (threads_of c.args.launch.now) (path_for c.args.launch.now.program.now c.args.request.now) c.args.request.now c.reply-2.new.self c.tell_of.new.self
-            (run_of c.ask_for.new.session c.ask_for.new.terms) c.open_answer-told.result c.in_ok-answered.answered (λ s d. c.open_answer-told.ensures.events (threads_of c.args.launch.now) c.reply-2.new.self.hears_changes s d c.reply-2.new.self.stopped) c.in_ok-tell_of.ensures.told;
+        sends = sent_same g.M.RecordedMachine.stands g.O.Write.contents (threads_of c.args.launch.now) c.in_ok-path.path.now c.args.request.now c.reply-2.new.self c.tell_of.new.self
+            (run_of c.ask.new.session c.ask.new.terms) c.open_answer-told.result c.in_ok-answered.answered (λ s d. c.open_answer-told.ensures.events (threads_of c.args.launch.now) c.reply-2.new.self.hears_changes s d c.reply-2.new.self.stopped) c.in_ok-tell_of.ensures.told;
       };
       begins = inl (λ is. cc, refl, refl);
     }))
@@ -76,7 +79,7 @@ returns-in-Disconnect-clause-messages g c = c.tell_of.ensures.messages ∙ c.rep
 
 pub returns-clause-done : goal.returns-clause-done
 returns-clause-done g c =
-    follows_asking g.M.RecordedMachine.stands (setup_by c.args.launch.now) c.args.request.now (run_of c.args.session.now c.args.terms.now) (run_of c.ask_for.new.session c.ask_for.new.terms) c.ask_for.result c.ask_for.ensures.asked
+    follows_asking g.M.RecordedMachine.stands (g.F.FileFinder.leads c.args.files.now) (setup_by c.args.launch.now) c.args.request.now c.in_ok-path.path.now (run_of c.args.session.now c.args.terms.now) (run_of c.ask.new.session c.ask.new.terms) c.ask.result c.in_ok-path.ensures c.ask.ensures.asked
 
 pub returns-clause-told : goal.returns-clause-told
 returns-clause-told g c =
@@ -84,13 +87,15 @@ returns-clause-told g c =
       message = _;
       replied = c.reply-2.new.self;
       told = c.tell_of.new.self;
-      middle = run_of c.ask_for.new.session c.ask_for.new.terms;
+      middle = run_of c.ask.new.session c.ask.new.terms;
       reply = replied_same g.O.Write.contents c.args.self.now c.reply-2.new.self c.open_answer-told.new.texts _ c.in_ok-reply-3.ensures.sent;
+      path = c.in_ok-path.path.now;
+      is_path = c.in_ok-path.ensures;
       one = record {
         answered = c.in_ok-answered.answered;
         does = c.in_ok-answered.ensures.done;
-        sends = sent_same g.M.RecordedMachine.stands g.O.Write.contents (threads_of c.args.launch.now) (path_for c.args.launch.now.program.now c.args.request.now) c.args.request.now c.reply-2.new.self c.tell_of.new.self
-            (run_of c.ask_for.new.session c.ask_for.new.terms) c.open_answer-told.result c.in_ok-answered.answered (λ s d. c.open_answer-told.ensures.events (threads_of c.args.launch.now) c.reply-2.new.self.hears_changes s d c.reply-2.new.self.stopped) c.in_ok-tell_of.ensures.told;
+        sends = sent_same g.M.RecordedMachine.stands g.O.Write.contents (threads_of c.args.launch.now) c.in_ok-path.path.now c.args.request.now c.reply-2.new.self c.tell_of.new.self
+            (run_of c.ask.new.session c.ask.new.terms) c.open_answer-told.result c.in_ok-answered.answered (λ s d. c.open_answer-told.ensures.events (threads_of c.args.launch.now) c.reply-2.new.self.hears_changes s d c.reply-2.new.self.stopped) c.in_ok-tell_of.ensures.told;
       };
       begins = inl (c.in_default-request.not-ConfigurationDone, refl, refl);
     }))

@@ -14,7 +14,7 @@ returns-in_err-reply g c =
       begun = made;
       restores = record { done = c.restore_stops.ensures.done; terms = c.restore_stops.ensures.terms; keep_numbers = c.restore_stops.ensures.numbers };
       begins = inl refl;
-      serves = serves_nothing g.M.RecordedMachine.stands (setup_of c.args.launch.now) start (unread left c.reply.new.self) made (told left start (messages_of c.args.self.now) c.reply.new.self c.reply.ensures.messages (lets_nothing_go start));
+      serves = serves_nothing g.M.RecordedMachine.stands (g.F.FileFinder.leads c.args.files.now) (setup_of c.args.launch.now) start (unread left c.reply.new.self) made (told left start (messages_of c.args.self.now) c.reply.new.self c.reply.ensures.messages (lets_nothing_go start));
     }
 
 pub returns-in_default : goal.returns-in_default
@@ -27,7 +27,7 @@ returns-in_default g c =
       begun = made;
       restores = record { done = c.restore_stops.ensures.done; terms = c.restore_stops.ensures.terms; keep_numbers = c.restore_stops.ensures.numbers };
       begins = inl refl;
-      serves = serves_nothing g.M.RecordedMachine.stands (setup_of c.args.launch.now) start (unread left c.reply.new.self) made (told left start (messages_of c.args.self.now) c.reply.new.self c.reply.ensures.messages (lets_nothing_go start));
+      serves = serves_nothing g.M.RecordedMachine.stands (g.F.FileFinder.leads c.args.files.now) (setup_of c.args.launch.now) start (unread left c.reply.new.self) made (told left start (messages_of c.args.self.now) c.reply.new.self c.reply.ensures.messages (lets_nothing_go start));
     }
 
 pub returns-in_err-begin : goal.returns-in_err-begin
@@ -41,7 +41,7 @@ returns-in_err-begin g c =
       begun = begun;
       restores = record { done = c.restore_stops.ensures.done; terms = c.restore_stops.ensures.terms; keep_numbers = c.restore_stops.ensures.numbers };
       begins = inr (subst (λ setup. Begins g.M.RecordedMachine.stands setup made begun) c.in-Some.ensures.setup c.begin.ensures.done);
-      serves = serves_nothing g.M.RecordedMachine.stands (setup_of c.args.launch.now) start (unread left c.begin.new.self) begun (told left start (messages_of c.args.self.now) c.begin.new.self (c.begin.ensures.messages ∙ c.reply.ensures.messages) (lets_nothing_go start));
+      serves = serves_nothing g.M.RecordedMachine.stands (g.F.FileFinder.leads c.args.files.now) (setup_of c.args.launch.now) start (unread left c.begin.new.self) begun (told left start (messages_of c.args.self.now) c.begin.new.self (c.begin.ensures.messages ∙ c.reply.ensures.messages) (lets_nothing_go start));
     }
 
 pub returns : goal.returns
@@ -54,5 +54,5 @@ returns g c =
       begun = begun;
       restores = record { done = c.restore_stops.ensures.done; terms = c.restore_stops.ensures.terms; keep_numbers = c.restore_stops.ensures.numbers };
       begins = inr (subst (λ setup. Begins g.M.RecordedMachine.stands setup made begun) c.in-Some.ensures.setup c.begin.ensures.done);
-      serves = subst (λ messages. Serves g.M.RecordedMachine.stands (setup_of c.args.launch.now) (frames.unread left messages) (unread left c.go_on.new.self) begun (run_of c.go_on.new.session c.go_on.new.terms)) (c.begin.ensures.messages ∙ c.reply.ensures.messages) c.go_on.ensures;
+      serves = subst (λ messages. Serves g.M.RecordedMachine.stands (g.F.FileFinder.leads c.args.files.now) (setup_of c.args.launch.now) (frames.unread left messages) (unread left c.go_on.new.self) begun (run_of c.go_on.new.session c.go_on.new.terms)) (c.begin.ensures.messages ∙ c.reply.ensures.messages) c.go_on.ensures;
     }
