@@ -26,6 +26,7 @@ use adapter_session::{
 };
 use debug_session::Session;
 use frame_expressions::ExpressionMachine;
+use lane_places::LaneMachine;
 use serde_json::Value;
 use std::alloc::{AllocError, Global};
 use std::io::{Read, Write};
@@ -53,7 +54,7 @@ impl<R: Read, O: Write> Connection<R, O> {
     ///
     /// How the connection ended before that.
     #[tactic(auto, using(crate::proofs::ReadMessages::serves_nothing, crate::proofs::ReadMessages::lets_nothing_go))]
-    pub fn serve<M: ExpressionMachine>(
+    pub fn serve<M: LaneMachine>(
         &mut self,
         launch: &LaunchMessage,
         terms: &mut Terms,
@@ -73,7 +74,7 @@ impl<R: Read, O: Write> Connection<R, O> {
     /// # Errors
     ///
     /// How the connection ended before that.
-    pub fn restart<M: ExpressionMachine>(
+    pub fn restart<M: LaneMachine>(
         &mut self,
         launch: &LaunchMessage,
         old: &Session<M>,
@@ -116,7 +117,7 @@ impl<R: Read, O: Write> Connection<R, O> {
     ///
     /// How the connection ended before that.
     #[tactic(auto, using(crate::proofs::ReadMessages::serves_nothing, crate::proofs::ReadMessages::lets_nothing_go))]
-    pub fn go_on<M: ExpressionMachine>(
+    pub fn go_on<M: LaneMachine>(
         &mut self,
         launch: &LaunchMessage,
         terms: &mut Terms,
@@ -141,7 +142,7 @@ impl<R: Read, O: Write> Connection<R, O> {
 
     /// Answers a message.
     #[tactic(auto, using(crate::proofs::ServedRequests::answers_nothing, crate::proofs::ServedRequests::answers_following))]
-    fn answer<M: ExpressionMachine>(
+    fn answer<M: LaneMachine>(
         &mut self,
         launch: &Launch<'_>,
         terms: &mut Terms,
@@ -167,7 +168,7 @@ impl<R: Read, O: Write> Connection<R, O> {
 
     /// Does a request and answers it, and tells what came of it; a restart is not answered.
     #[tactic(auto, using(crate::proofs::ServedRequests::follows_nothing, crate::proofs::ServedRequests::follows_asking))]
-    fn do_request<M: ExpressionMachine>(
+    fn do_request<M: LaneMachine>(
         &mut self,
         launch: &Launch<'_>,
         terms: &mut Terms,
