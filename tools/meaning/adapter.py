@@ -5,7 +5,7 @@ import re
 from .debugging import Refused, parts_of, set_part, value_of
 from .looks import Looks
 from .printed import text_of
-from .running import State
+from .running import State, opened
 from .values import Fault
 
 LINES = {"next": "next", "stepIn": "step", "stepOut": "finish", "continue": "continue", "stepBack": "reverse-step", "reverseContinue": "reverse-continue"}
@@ -30,6 +30,21 @@ MEANINGS = {
 def refusal_text(refused):
     """What an editor is told of a refusal: its number, its name and what it means."""
     return f"{refused}: {MEANINGS[refused.number]}"
+
+
+def lane_place(lane, frame, called):
+    """Where a lane waits in a frame: at the call of the frame that was called there, if it made that, else at the first step that is ahead of it."""
+    if called and lane in called.lanes:
+        return called.call.place
+    return next((it for it in map(first_place, frame.tasks_ahead(lane)) if it), frame.function.closing)
+
+
+def first_place(task):
+    """The place of the first step of a task; None where it has no step."""
+    if task.kind in ("test", "round"):
+        return task.statement.place
+    steps = opened(task.statement, task.lanes) if task.statement else []
+    return steps[0].statement.place if steps else None
 
 
 class Adapter(Looks):
@@ -60,11 +75,12 @@ class Adapter(Looks):
         return [(lane + 1, f"lane {lane}" + (WAITS if top and lane not in top.lanes else "")) for lane in range(self.width)]
 
     def lane_stack(self, lane):
-        """The frames that were made for a lane, marked where it does not do what is next in them; at the end that of the end."""
+        """The frames that were made for a lane, at its own places, marked where it does not do what is next in them; at the end that of the end."""
         if not self.standings():
             return [self.end()]
-        rows = zip(self.standings(), self.stack())
-        return [(number, name + ("" if lane in it.lanes else WAITS), *place) for it, (number, name, *place) in rows if lane in it.frame.lanes]
+        inner = [None, *(it.frame for it in self.standings())]
+        rows = [it for it in zip(self.standings(), self.stack(), inner) if lane in it[0].frame.lanes]
+        return [(number, name + ("" if lane in it.lanes else WAITS), *lane_place(lane, it.frame, called)) for it, (number, name, *_), called in rows]
 
     def thread_of(self, text):
         """The thread of a stop, where lanes are threads: that of the lane that faults, or else of the lowest active lane."""

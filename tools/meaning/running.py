@@ -30,6 +30,10 @@ class Frame:
         made.views, made.words, made.result, made.tasks = self.views, dict(self.words), self.result, list(self.tasks)
         return made
 
+    def tasks_ahead(self, lane):
+        """The tasks that are done before a lane is past them all: its own, and each round of a foreach form that some lane does."""
+        return [it for it in self.tasks if lane in it.lanes or it.kind == "round" and it.lanes]
+
 
 class State:
     """The variables of the file, and the frames, the top one last. Lists of words are never changed in place."""

@@ -27,6 +27,7 @@ from .adapter_launches import LAUNCH_CHECKS
 from .adapter_links import LINK_CHECKS
 from .adapter_logs import LOG_CHECKS
 from .adapter_moves import MOVE_CHECKS
+from .adapter_places import PLACE_CHECKS
 from .adapter_programs import PROGRAM_CHECKS
 from .adapter_refusals import NO_HISTORY, OUTERMOST, OUT_OF_RANGE
 from .adapter_restarts import RESTART_CHECKS
@@ -471,7 +472,7 @@ def wrong_requests(client, examples):
     client.end()
 
 
-CHECKS = [steps_and_back, watches, breaks, locations, variables, frames, faults, filters, the_end, wrong_requests, *FRAME_CHECKS, *LANE_CHECKS, *LAUNCH_CHECKS, *LINK_CHECKS, *LOG_CHECKS, *VALUE_CHECKS, *TARGET_CHECKS, *CHILD_CHECKS, *CHANGE_CHECKS, *FORMAT_CHECKS, *MOVE_CHECKS, *CONDITION_CHECKS, *FUNCTION_CHECKS, *RESTART_CHECKS, *WATCHED_CHECKS, *PROGRAM_CHECKS, *WORD_CHECKS, *HINT_CHECKS, *BEFORE_CHECKS]
+CHECKS = [steps_and_back, watches, breaks, locations, variables, frames, faults, filters, the_end, wrong_requests, *FRAME_CHECKS, *LANE_CHECKS, *PLACE_CHECKS, *LAUNCH_CHECKS, *LINK_CHECKS, *LOG_CHECKS, *VALUE_CHECKS, *TARGET_CHECKS, *CHILD_CHECKS, *CHANGE_CHECKS, *FORMAT_CHECKS, *MOVE_CHECKS, *CONDITION_CHECKS, *FUNCTION_CHECKS, *RESTART_CHECKS, *WATCHED_CHECKS, *PROGRAM_CHECKS, *WORD_CHECKS, *HINT_CHECKS, *BEFORE_CHECKS]
 
 
 def check(root, command):

@@ -1,7 +1,8 @@
 """Checks of the debug adapter: each lane as a thread of its own.
 
 `go` calls `twice` in each lane but lane 0, and `twice` calls `deeper` in the odd ones. So where `deeper` stands, the odd lanes have three frames, the
-others but lane 0 have two and wait in theirs, and lane 0 waits in `go`: each set of lanes is worked out here by the lanes' numbers.
+others but lane 0 have two and wait in theirs behind the call, and lane 0 waits in `go` behind its call: each set of lanes, and each line, is worked
+out here by the lanes' numbers. `adapter_places` has more of where they wait.
 """
 
 from .adapter_frames import written
@@ -65,11 +66,16 @@ def marked(name, width, holds, lane):
     return f"{name} [{bits(width, holds)}]" + ("" if holds(lane) else WAITS)
 
 
+def in_go(width, lane):
+    """The frame of `go` of a lane, where those that call `twice` have called it."""
+    return 1, CALLS_TWICE if is_called(lane) else LAST, marked("go", width, is_called, lane)
+
+
 def in_deeper(width, lane):
     """The frames of a lane where the odd ones stand in `deeper`."""
-    found = [(1, CALLS_TWICE, marked("go", width, is_called, lane))]
+    found = [in_go(width, lane)]
     if is_called(lane):
-        found.insert(0, (2, CALLS_DEEPER, marked("twice", width, is_odd, lane)))
+        found.insert(0, (2, CALLS_DEEPER if is_odd(lane) else BEHIND, marked("twice", width, is_odd, lane)))
     if is_odd(lane):
         found.insert(0, (3, DEEPER, marked("deeper", width, is_odd, lane)))
     return found
@@ -85,14 +91,15 @@ def frames_of_lanes(client, examples):
             client.breakpoints(TWICE, DEEPER, BEHIND)
             same((client.move("continue")["threadId"], threads(client)), (2, named(width, is_called)))
             for lane in range(width):
-                found = [(1, CALLS_TWICE, marked("go", width, is_called, lane))]
+                found = [in_go(width, lane)]
                 if is_called(lane):
                     found.insert(0, (2, TWICE, f"twice [{bits(width, is_called)}]"))
                 same(stack(client, lane), found)
             same((client.move("continue")["threadId"], threads(client)), (2, named(width, is_odd)))
             same([stack(client, lane) for lane in range(width)], [in_deeper(width, lane) for lane in range(width)])
             same((client.move("continue")["threadId"], threads(client)), (2, named(width, is_called)))
-            same([len(stack(client, lane)) for lane in range(width)], [1, *[2] * (width - 1)])
+            behind = [[(2, BEHIND, f"twice [{bits(width, is_called)}]")] * is_called(lane) + [in_go(width, lane)] for lane in range(width)]
+            same([stack(client, lane) for lane in range(width)], behind)
             # Back at the call's breakpoint they are as before.
             client.move("reverseContinue")
             same([stack(client, lane) for lane in range(width)], [in_deeper(width, lane) for lane in range(width)])

@@ -98,8 +98,9 @@ class Told:
         return kept is not None and bool(kept.frames) and (watches or kept.top.tasks[0].statement.place[0] in lines)
 
     def stack(self):
-        """The frames of a thread; of a lane also what it is called, or of the gang."""
-        lane = self.chance.randrange(self.width)
+        """The frames of a thread, mostly of a lane that waits; of a lane also what it is called, or of the gang."""
+        waiting = [at for at, (_, name) in enumerate(self.meant.threads()) if self.has_lanes and name.endswith(WAITS)]
+        lane = self.chance.choice(waiting) if waiting and self.is_in(70) else self.chance.randrange(self.width)
         self.note("stack", self.meant.lane_stack(lane) if self.has_lanes else self.meant.stack(), lane + 1)
         self.note("called", self.meant.threads() if self.has_lanes else [(1, "gang")])
 

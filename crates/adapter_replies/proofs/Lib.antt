@@ -12,6 +12,7 @@ pub mod PageRanges
 pub mod ParameterLines
 pub mod Rows
 pub mod ShownAnswers
+pub mod StepPlaces
 pub mod ToldVariables
 pub mod TopFrame
 pub mod WorkedEnds

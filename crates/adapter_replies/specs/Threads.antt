@@ -1,11 +1,13 @@
 -- The threads that an editor sees where each lane is one: their names, the frames of a lane, and which of them a stop names.
 use Rattle.std.specs.Prelude.{◌≡◌, ℕ, ◌+◌, ◌-◌, ◌==◌, nat_le, nat_lt, Bool, true, false, ◌&&◌, ◌||◌, List, [], ◌++◌, codes, decimal, filter, map, Option, Some, None, if◌then◌else◌}
 use Rattle.std.specs.List.{range_with_len}
+use Rattle.gang_types.specs.declared.places.Place.{Place}
 use Rattle.gang_types.specs.Lanes.{Lanes, has, lowest}
+use Rattle.gang_model.specs.Types.Tree.{Program}
 use Rattle.gang_model.specs.Running.State.{State}
 use Rattle.gang_model.specs.Debugger.Positions.{lanes_now}
 use Rattle.gang_model.specs.Debugger.Debugger.{Debugger, Setting, has_ended, now}
-use Rattle.gang_model.specs.Texts.Text.{Bytes}
+use Rattle.gang_model.specs.Texts.Text.{Bytes, line_and_column}
 use Rattle.adapter_requests.specs.declared.reply.Reply.{Reply}
 use Rattle.adapter_requests.specs.declared.reply.StopReason.{StopReason}
 use Rattle.adapter_requests.specs.declared.reply.StopReason.TheVariants as reason
@@ -15,7 +17,7 @@ use Rattle.adapter_replies.specs.declared.threads.Threads.{Threads}
 use Rattle.adapter_replies.specs.declared.threads.Threads.TheVariants as threads
 use Rattle.adapter_replies.specs.Frames.{ToldFrame, all_frames}
 use Rattle.adapter_replies.specs.Told.{AreFramesTold, told_stop, told_threads}
-use Rattle.adapter_replies.specs.Waiting.{called_lanes, shown_lanes, waits}
+use Rattle.adapter_replies.specs.Waiting.{called_lanes, lane_place, shown_lanes, waits}
 
 -- what stands behind the name of what waits
 abbrev pub mark : (waits : Bool) → Bytes
@@ -42,13 +44,22 @@ lane_of width (Some thread) = if nat_le 1 thread && nat_le thread width then Som
 abbrev pub is_in : State → (depth : ℕ) → (lane : ℕ) → Bool
 is_in state deep lane = (deep == 1) || has (called_lanes (deep - 1) state.frames) lane
 
--- a frame as a lane of it is told it: marked where the lane is not active at the frame's next step or call
-abbrev pub own_frame : State → (lane : ℕ) → ToldFrame → ToldFrame
-own_frame state lane told = record { depth = told.depth; name = told.name ++ mark (waits (shown_lanes state told.depth) lane); place = told.place }
+-- LINE:COL of a place, or what is told where there is none
+abbrev pub place_or : Bytes → Option Place → Bytes
+place_or told None = told
+place_or told (Some place) = line_and_column place
+
+-- a frame as a lane of it is told it: at the place where the lane waits there, and marked where it is not active at the frame's next step or call
+abbrev pub own_frame : Program → State → (lane : ℕ) → ToldFrame → ToldFrame
+own_frame p state lane told = record {
+  depth = told.depth;
+  name = told.name ++ mark (waits (shown_lanes state told.depth) lane);
+  place = place_or told.place (lane_place p told.depth lane state);
+}
 
 -- of some frames those that a lane is in
-abbrev pub lane_frames : State → (lane : ℕ) → List ToldFrame → List ToldFrame
-lane_frames state lane frames = map (own_frame state lane) (filter (λ told. is_in state told.depth lane) frames)
+abbrev pub lane_frames : Program → State → (lane : ℕ) → List ToldFrame → List ToldFrame
+lane_frames p state lane frames = map (own_frame p state lane) (filter (λ told. is_in state told.depth lane) frames)
 
 -- ---- the thread of a stop
 
@@ -72,7 +83,7 @@ stop_thread (threads.Lanes width) lanes why = thread_or_first width (stop_lane l
 abbrev pub IsLaneStackTold : (has_ended : Bool) → Setting → Debugger → (lane : ℕ) → (start levels : Option ℕ) → Option Reply → Type 0
 IsLaneStackTold true s d lane start levels told = told ≡ None
 IsLaneStackTold false s d lane start levels None = ⊥
-IsLaneStackTold false s d lane start levels (Some told) = AreFramesTold start levels (lane_frames (now s d) lane (all_frames s.program (now s d).frames)) told
+IsLaneStackTold false s d lane start levels (Some told) = AreFramesTold start levels (lane_frames s.program (now s d) lane (all_frames s.program (now s d).frames)) told
 
 -- the same of a thread that a lane has, or none
 abbrev pub IsStackTold : Setting → Debugger → (lane : Option ℕ) → (start levels : Option ℕ) → Option Reply → Type 0

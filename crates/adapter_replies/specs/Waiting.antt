@@ -1,12 +1,14 @@
--- The lanes that wait where a frame stands.
-use Rattle.std.specs.Prelude.{ℕ, ◌==◌, Bool, not, ◌&&◌, List, [], ◌∷◌, length, nat_lt, Option, Some, None, if◌then◌else◌}
+-- The lanes that wait where a frame stands, and where a lane waits in it.
+use Rattle.std.specs.Prelude.{ℕ, ◌==◌, Bool, not, ◌&&◌, List, [], ◌∷◌, length, nat_lt, option_map, Option, Some, None, if◌then◌else◌}
+use Rattle.gang_types.specs.declared.places.Place.{Place}
 use Rattle.gang_types.specs.Lanes.{Lanes, has}
 use Rattle.gang_types.specs.Masks.{lanes_of}
-use Rattle.gang_model.specs.Types.Tree.{StepNumber}
+use Rattle.gang_model.specs.Types.Tree.{StepNumber, Standing, Program}
 use Rattle.gang_model.specs.Running.State.{Frame, State}
-use Rattle.gang_model.specs.Debugger.Positions.{lanes_now}
+use Rattle.gang_model.specs.Debugger.Positions.{lanes_now, standing_of}
 use Rattle.gang_model.specs.Debugger.Debugger.{depth}
 use Rattle.debug_traits.specs.declared.machine.Position.{Position}
+use Rattle.lane_places.specs.Places.{lane_spot_at}
 
 -- the lanes of a call, none where it was not made
 abbrev pub call_lanes : Option StepNumber → Lanes → Lanes
@@ -31,3 +33,11 @@ waits lanes lane = nat_lt lane (length lanes) && not (has lanes lane)
 abbrev pub position_lanes : Option Position → Lanes
 position_lanes None = []
 position_lanes (Some p) = lanes_of p.width p.lanes
+
+-- the place of a standing
+abbrev pub place_of : Option Standing → Option Place
+place_of standing = option_map (λ it. it.place) standing
+
+-- where in the source a lane waits in the frame at a depth
+abbrev pub lane_place : Program → (depth lane : ℕ) → State → Option Place
+lane_place p deep lane state = place_of (standing_of p (lane_spot_at p deep lane state))

@@ -13,9 +13,10 @@ ghost use Rattle.adapter_replies.specs.Waiting.{position_lanes};
 use crate::ends::has_ended;
 use crate::frames::{frames, frames_reply};
 use crate::replies::GANG;
-use crate::waiting::{standing, waits};
+use crate::waiting::{lane_place, standing, waits};
 use adapter_requests::{Frame, Reply, Request, StopReason, Thread};
 use debug_traits::{Position, RecordedMachine};
+use lane_places::LaneMachine;
 use std::alloc::{AllocError, Global};
 
 /// The widest gang.
@@ -30,13 +31,14 @@ pub enum Threads {
     Lanes(usize),
 }
 
-/// What a request is told that is one for threads, or for the frames of one, where each lane is a thread. Other requests, those for frames
-/// once the program has ended, and all where the gang is the one thread, are told what `reply_to` says.
+/// What a request is told that is one for threads, or for the frames of one, where each lane is a thread. A frame has the place where the
+/// thread's lane waits in it. Other requests, those for frames once the program has ended, and all where the gang is the one thread, are
+/// told what `reply_to` says.
 ///
 /// # Errors
 ///
 /// Out of memory.
-pub fn thread_reply<M: RecordedMachine>(
+pub fn thread_reply<M: LaneMachine>(
     alloc: Global,
     machine: &M,
     threads: Threads,
@@ -123,7 +125,7 @@ fn lane_of(width: usize, thread: Option<u64>) -> Option<usize>
 }
 
 /// So many of the frames of a lane, or a refusal where no lane has the thread. At the end a lane has those of the gang.
-fn lane_stack<M: RecordedMachine>(
+fn lane_stack<M: LaneMachine>(
     alloc: Global,
     machine: &M,
     lane: Option<usize>,
@@ -147,13 +149,13 @@ fn lane_stack<M: RecordedMachine>(
 }
 
 /// The frames that a lane is in, the top one first.
-fn lane_frames<M: RecordedMachine>(
+fn lane_frames<M: LaneMachine>(
     alloc: Global,
     machine: &M,
     lane: usize,
 ) -> Result<Vec<Frame>, AllocError>
     ensures { (s : Setting) (d : Debugger) → M.stands machine.now s d
-        → IfOk result (λ own. map frame_view own.items ≡ spec.lane_frames (now s d) lane (all_frames s.program (now s d).frames)) }
+        → IfOk result (λ own. map frame_view own.items ≡ spec.lane_frames s.program (now s d) lane (all_frames s.program (now s d).frames)) }
 {
     let all = frames(alloc, machine)?;
     let mut own = Vec::new(alloc);
@@ -164,14 +166,14 @@ fn lane_frames<M: RecordedMachine>(
 }
 
 /// Puts a frame behind others, if a lane is in it.
-fn push_own<M: RecordedMachine>(
+fn push_own<M: LaneMachine>(
     machine: &M,
     lane: usize,
     frame: Frame,
     own: &mut Vec<Frame>,
 ) -> Result<(), AllocError>
     ensures { (s : Setting) (d : Debugger) → M.stands machine.now s d
-        → IfOk result (λ _. map frame_view own.new.items ≡ map frame_view own.old.items ++ spec.lane_frames (now s d) lane (frame_view frame ∷ [])) }
+        → IfOk result (λ _. map frame_view own.new.items ≡ map frame_view own.old.items ++ spec.lane_frames s.program (now s d) lane (frame_view frame ∷ [])) }
 {
     if is_in(machine, frame.depth, lane) {
         own.push(own_frame(machine, lane, frame)?)?;
@@ -197,18 +199,18 @@ fn has_lane(position: Option<Position<'_>>, lane: usize) -> bool
     }
 }
 
-/// A frame as a lane of it is told it.
-fn own_frame<M: RecordedMachine>(
-    machine: &M,
-    lane: usize,
-    frame: Frame,
-) -> Result<Frame, AllocError>
+/// A frame as a lane of it is told it, at the place where the lane waits there.
+fn own_frame<M: LaneMachine>(machine: &M, lane: usize, frame: Frame) -> Result<Frame, AllocError>
     ensures { (s : Setting) (d : Debugger) → M.stands machine.now s d
-        → IfOk result (λ own. frame_view own ≡ spec.own_frame (now s d) lane (frame_view frame)) }
+        → IfOk result (λ own. frame_view own ≡ spec.own_frame s.program (now s d) lane (frame_view frame)) }
 {
     let mut own = frame;
     let marked = mark(waits(standing(machine, own.depth), lane));
     own.name.push_str(marked)?;
+    if let Some(place) = lane_place(machine, own.depth, lane) {
+        own.line = place.line;
+        own.column = place.col;
+    }
     Ok(own)
 }
 

@@ -26,6 +26,7 @@ use adapter_session::{
 };
 use debug_session::Session;
 use frame_expressions::ExpressionMachine;
+use lane_places::LaneMachine;
 use serde_json::Value;
 use std::alloc::{AllocError, Global};
 use std::io::{Read, Write};
@@ -53,7 +54,7 @@ impl<R: Read, O: Write> Connection<R, O> {
     ///
     /// How the connection ended before that.
     #[tactic(auto, using(crate::proofs::ReadMessages::serves_nothing, crate::proofs::ReadMessages::lets_nothing_go))]
-    pub fn serve<M: ExpressionMachine, F: FileFinder>(
+    pub fn serve<M: LaneMachine, F: FileFinder>(
         &mut self,
         launch: &LaunchMessage,
         terms: &mut Terms,
@@ -74,7 +75,7 @@ impl<R: Read, O: Write> Connection<R, O> {
     /// # Errors
     ///
     /// How the connection ended before that.
-    pub fn restart<M: ExpressionMachine, F: FileFinder>(
+    pub fn restart<M: LaneMachine, F: FileFinder>(
         &mut self,
         launch: &LaunchMessage,
         old: &Session<M>,
@@ -118,7 +119,7 @@ impl<R: Read, O: Write> Connection<R, O> {
     ///
     /// How the connection ended before that.
     #[tactic(auto, using(crate::proofs::ReadMessages::serves_nothing, crate::proofs::ReadMessages::lets_nothing_go))]
-    pub fn go_on<M: ExpressionMachine, F: FileFinder>(
+    pub fn go_on<M: LaneMachine, F: FileFinder>(
         &mut self,
         launch: &LaunchMessage,
         terms: &mut Terms,
@@ -144,7 +145,7 @@ impl<R: Read, O: Write> Connection<R, O> {
 
     /// Answers a message.
     #[tactic(auto, using(crate::proofs::ServedRequests::answers_nothing, crate::proofs::ServedRequests::answers_following))]
-    fn answer<M: ExpressionMachine, F: FileFinder>(
+    fn answer<M: LaneMachine, F: FileFinder>(
         &mut self,
         launch: &Launch<'_>,
         terms: &mut Terms,
@@ -172,7 +173,7 @@ impl<R: Read, O: Write> Connection<R, O> {
     /// Does a request, which knows the program by the path of its source where this is the program's, and answers it, and tells what came
     /// of it; a restart is not answered.
     #[tactic(auto, using(crate::proofs::ServedRequests::follows_nothing, crate::proofs::ServedRequests::follows_asking))]
-    fn do_request<M: ExpressionMachine, F: FileFinder>(
+    fn do_request<M: LaneMachine, F: FileFinder>(
         &mut self,
         launch: &Launch<'_>,
         terms: &mut Terms,

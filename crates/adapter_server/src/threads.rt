@@ -13,7 +13,7 @@ use adapter_replies::{Threads, exception_reply, stop_thread, thread_reply};
 use adapter_requests::{Launch, Reply, Request, StopReason};
 use debug_session::Session;
 use debug_traits::RecordedMachine;
-use frame_expressions::ExpressionMachine;
+use lane_places::LaneMachine;
 use opened_texts::OpenedTexts;
 use std::alloc::{AllocError, Global};
 
@@ -22,7 +22,7 @@ const WIDTH: u64 = 4;
 
 /// What a request is told for which a session has nothing to do: one for the fault of the last stop, one for the lanes of an expression
 /// that has a place among the texts, and, where each lane is a thread, one for threads or for the frames of one.
-pub(crate) fn told_aside<M: ExpressionMachine>(
+pub(crate) fn told_aside<M: LaneMachine>(
     alloc: Global,
     launch: &Launch<'_>,
     session: &Session<M>,

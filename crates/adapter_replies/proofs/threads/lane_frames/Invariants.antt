@@ -7,4 +7,4 @@ use Rattle.adapter_replies.proofs.threads.lane_frames.Given as goal
 
 abbrev pub invariant-loop-frame : goal.invariant-loop-frame
 invariant-loop-frame g l =
-    (s : Setting) (d : Debugger) → g.M.RecordedMachine.stands l.machine s d → map frame_view l.own.items ≡ spec.lane_frames (now s d) l.lane (map frame_view l.yielded)
+    (s : Setting) (d : Debugger) → g.M.RecordedMachine.stands l.machine s d → map frame_view l.own.items ≡ spec.lane_frames s.program (now s d) l.lane (map frame_view l.yielded)
