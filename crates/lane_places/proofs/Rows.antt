@@ -60,7 +60,7 @@ called = record {
 }
 
 abbrev program : Program
-program = record { functions = []; globals = []; }
+program = record { functions = []; globals = [] }
 
 in_the_called_function : lane_spot_at program 2 1 called ≡ Some (spot_in 1 2)
 in_the_called_function = refl
