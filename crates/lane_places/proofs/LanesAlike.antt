@@ -9,13 +9,16 @@ use Rattle.gang_model.specs.Running.Lanes.{at}
 use Rattle.gang_model.specs.Running.Rounds.{Turn}
 use Rattle.gang_model.specs.Running.State.{Run, Frame, State, Task}
 use Rattle.gang_model.specs.Running.Step.{round_tasks, task}
+use Rattle.gang_model.specs.Debugger.Events.{Event, Row, after, start}
 use Rattle.gang_model.specs.Debugger.Positions.{closing_of, spot_in}
-use Rattle.gang_model.proofs.StateLanes.{FrameSized, FramesSized, StateSized, TasksSized}
+use Rattle.gang_model.proofs.StateLanes.{FrameSized, FramesSized, StateSized, TasksSized, sized-after, sized-start}
 use Rattle.mask_states.specs.Masked.{Level, Masked, no_turn, turns_taken}
-use Rattle.mask_states.specs.MaskedStep.{untasked_frame}
+use Rattle.mask_states.specs.MaskedStep.{masked_after, masked_start, untasked_frame}
 use Rattle.mask_states.specs.Points.{closing_number, points_in}
 use Rattle.mask_states.specs.Stands.{AreLowerable, FrameStands, FramesStand, IsLowerable, IsPending, LevelsStand, RoundsStand, Stands, TasksStand, own, waits}
+use Rattle.mask_states.proofs.Beginning.{start_stands}
 use Rattle.mask_states.proofs.OwnTasks.{by_bool}
+use Rattle.mask_states.proofs.RunsAlike.{stands_after}
 use Rattle.mask_states.proofs.ShownAlike.{frames_alike}
 use Rattle.mask_states.proofs.UntaskedWrites.{untasked_length}
 use Rattle.lane_places.specs.Levels.{is_past, masked_lane_spot, number_in, number_in_levels, spot_by_levels}
@@ -176,3 +179,12 @@ module _ (p : Program) (lowerable : AreLowerable p) (w lane : ℕ) where
   lane_spot_alike deep state masked s sized =
       frames_spot deep None state.frames masked.levels s.frames tt sized
       ∙ ap (λ frames. spot_by_levels deep lane frames masked.levels) (sym (frames_alike p w state masked s))
+
+-- whatever the entry, the inputs, the width, and the steps and pokes so far
+pub lanes_alike : (p : Program) → AreLowerable p → (entry : ℕ) (rows : List Row) (width : ℕ) (events : List Event) (deep lane : ℕ)
+    → lane_spot_at p deep lane (after p (start p entry rows width) events) ≡ masked_lane_spot deep lane (masked_after p (masked_start p entry rows width) events)
+lanes_alike p lowerable entry rows width events deep lane =
+    let first = start p entry rows width in
+    let masked = masked_start p entry rows width in
+    let stands = stands_after p lowerable width first masked (start_stands p lowerable entry rows width) (sized-start width p entry rows) events in
+    lane_spot_alike p lowerable width lane deep (after p first events) (masked_after p masked events) stands (sized-after width p first events (sized-start width p entry rows))
