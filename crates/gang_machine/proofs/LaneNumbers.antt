@@ -60,6 +60,7 @@ module _ (lane : ℕ) (level : Level) where
     where
       some_none : Some number ≡ None → ⊥
       some_none e = cc
+
       same_number : (n : StepNumber) → Some number ≡ Some n → number ≡ n
       same_number n e = cc
 
@@ -67,34 +68,39 @@ and_false : (a b : Bool) → b ≡ false → (a && b) ≡ false
 and_false true b h = h
 and_false false b h = refl
 
-off : (b : Bool) → true ≡ not b → b ≡ false
+off : (b : Bool) → not b ≡ true → b ≡ false
 off true h = sym h
 off false h = refl
 
-on : (b : Bool) → false ≡ not b → b ≡ true
+on : (b : Bool) → not b ≡ false → b ≡ true
 on true h = refl
 on false h = sym h
 
-module _ (w lane : ℕ) (form : RoundsOf) (words : LevelWords) (number : StepNumber) (is : number ≡ number_in lane (form_level w form words)) where
-  abbrev level : Level
-  level = form_level w form words
+-- what the code reads of a form, with its end and the lane's number
+module _ (w lane : ℕ) (form : RoundsOf) (words : LevelWords) (end number : StepNumber) (ended : end ≡ at words.end 0) (is : number ≡ number_in lane (body_level end words.numbers)) where
+  abbrev here : Level
+  here = form_level w form words
+
+  number_here : number ≡ number_in lane here
+  number_here = is ∙ ap (λ e. number_in lane (body_level e words.numbers)) ended
 
   -- the lane has a step to do in the round under way
-  pub in_round : number ≢ at words.end 0 → Some number ≡ number_unless_past lane (form_level w form words)
+  pub in_round : number ≢ end → Some number ≡ number_unless_past lane (form_level w form words)
   in_round busy =
-      ap Some is
-      ∙ sym (waits_some lane level (and_false (no_turn level.turns) (number_in lane level == level.end) (ne_eqb (number_in lane level) level.end (λ e. busy (is ∙ e)))))
+      let inside : number_in lane here ≡ here.end → ⊥ = λ e. busy (number_here ∙ e ∙ sym ended) in
+      ap Some number_here ∙ sym (waits_some lane here (and_false (no_turn here.turns) (number_in lane here == here.end) (ne_eqb (number_in lane here) here.end inside)))
 
-  -- a round is left
-  pub round_left : (any : Bool) → any ≡ not (no_turn (turns_left form w (kept_in w form words))) → any ≡ true → Some number ≡ number_unless_past lane (form_level w form words)
-  round_left any says some =
-      ap Some is
-      ∙ sym (waits_some lane level (ap (λ b. b && (number_in lane level == level.end)) (off (no_turn level.turns) (sym some ∙ says))))
+  module _ (any : Bool) (says : any ≡ not (no_turn (turns_left form w (kept_in w form words)))) where
+    -- a round is left
+    pub round_left : any ≡ true → number ≡ end → Some end ≡ number_unless_past lane (form_level w form words)
+    round_left some at_end =
+        ap Some (sym at_end ∙ number_here) ∙ sym (waits_some lane here (ap (λ b. b && (number_in lane here == here.end)) (off (no_turn here.turns) (sym says ∙ some))))
 
-  -- none is
-  pub none_left : (any : Bool) → number ≡ at words.end 0 → any ≡ not (no_turn (turns_left form w (kept_in w form words))) → any ≡ false → None ≡ number_unless_past lane (form_level w form words)
-  none_left any at_end says none =
-      sym (past_none lane level (ap (λ b. b && (number_in lane level == level.end)) (on (no_turn level.turns) (sym none ∙ says)) ∙ eq-eqb (number_in lane level) level.end (sym is ∙ at_end)))
+    -- none is
+    pub none_left : any ≡ false → number ≡ end → None ≡ number_unless_past lane (form_level w form words)
+    none_left none at_end =
+        let over : (number_in lane here == here.end) ≡ true = eq-eqb (number_in lane here) here.end (sym number_here ∙ at_end ∙ ended) in
+        sym (past_none lane here (ap (λ b. b && (number_in lane here == here.end)) (on (no_turn here.turns) (sym says ∙ none)) ∙ over))
 
 -- ---- the forms of a frame
 
@@ -109,10 +115,18 @@ module _ (points : List Point) (w : ℕ) (words : LevelsWords) (end : StepNumber
   pub passed_first : (forms : Forms) (level : ℕ) → length forms ≡ level → AreForms points w words forms → ArePassed points w words end lane forms level
   passed_first forms level long are = record { left = forms; long = long; are = are; same = refl }
 
-  by_first : (form : RoundsOf) (left : Forms) → number_in_levels lane (levels_in w words end (form ∷ left))
-      ≡ (if is_past lane (form_level w form (words (suc (length left)))) then number_in_levels lane (levels_in w words end left) else number_in lane (form_level w form (words (suc (length left)))))
-  by_first form [] = refl
-  by_first form (next ∷ left) = refl
+  module _ (form : RoundsOf) where
+    past_first : (left : Forms) → is_past lane (form_level w form (words (suc (length left)))) ≡ true
+        → number_in_levels lane (levels_in w words end (form ∷ left)) ≡ number_in_levels lane (levels_in w words end left)
+    past_first [] h = ap (λ b. if b then number_in_levels lane (levels_in w words end []) else number_in lane (form_level w form (words 1))) h
+    past_first (next ∷ left) h =
+        ap (λ b. if b then number_in_levels lane (levels_in w words end (next ∷ left)) else number_in lane (form_level w form (words (suc (length (next ∷ left)))))) h
+
+    waits_first : (left : Forms) → is_past lane (form_level w form (words (suc (length left)))) ≡ false
+        → number_in_levels lane (levels_in w words end (form ∷ left)) ≡ number_in lane (form_level w form (words (suc (length left))))
+    waits_first [] h = ap (λ b. if b then number_in_levels lane (levels_in w words end []) else number_in lane (form_level w form (words 1))) h
+    waits_first (next ∷ left) h =
+        ap (λ b. if b then number_in_levels lane (levels_in w words end (next ∷ left)) else number_in lane (form_level w form (words (suc (length (next ∷ left)))))) h
 
   module _ (forms : Forms) (level : ℕ) (some : 0 < level) (passed : ArePassed points w words end lane forms level) where
     -- the form of the level
@@ -123,48 +137,42 @@ module _ (points : List Point) (w : ℕ) (words : LevelsWords) (end : StepNumber
         by_left [] long are = absurd (omega (arith, long, some))
         by_left (form ∷ left) long are = (form, subst (λ l. IsForm points w (words l) form) long are.0)
 
-    -- the lane is past it too
-    pub passed_next : ((form : RoundsOf) → IsForm points w (words level) form → None ≡ number_unless_past lane (form_level w form (words level))) → ArePassed points w words end lane forms (level - 1)
-    passed_next none = by_left passed.left passed.long passed.are passed.same
-      where
-        by_left : (left : Forms) → length left ≡ level → AreForms points w words left → number_in_levels lane (levels_in w words end forms) ≡ number_in_levels lane (levels_in w words end left)
-            → ArePassed points w words end lane forms (level - 1)
-        by_left [] long are same = absurd (omega (arith, long, some))
-        by_left (form ∷ left) long are same =
-            let past = past_by lane (form_level w form (words level)) (none form (subst (λ l. IsForm points w (words l) form) long are.0)) in
-            let here : is_past lane (form_level w form (words (suc (length left)))) ≡ true = ap (λ l. is_past lane (form_level w form (words l))) long ∙ past in
-            record {
-              left = left;
-              long = omega (arith, long);
-              are = are.1;
-              same = same ∙ by_first form left
-                  ∙ ap (λ b. if b then number_in_levels lane (levels_in w words end left) else number_in lane (form_level w form (words (suc (length left))))) here;
-            }
+    -- and what the code answers of it
+    module _ (answer : Option StepNumber) (says : (form : RoundsOf) → IsForm points w (words level) form → answer ≡ number_unless_past lane (form_level w form (words level))) where
+      says_first : (form : RoundsOf) (left : Forms) → length (form ∷ left) ≡ level → AreForms points w words (form ∷ left) → answer ≡ number_unless_past lane (form_level w form (words (suc (length left))))
+      says_first form left long are =
+          says form (subst (λ l. IsForm points w (words l) form) long are.0) ∙ ap (λ l. number_unless_past lane (form_level w form (words l))) (sym long)
 
-    -- it waits there
-    pub found_here : (number : StepNumber) → ((form : RoundsOf) → IsForm points w (words level) form → Some number ≡ number_unless_past lane (form_level w form (words level)))
-        → number ≡ number_in_levels lane (levels_in w words end forms)
-    found_here number found = by_left passed.left passed.long passed.are passed.same
-      where
-        by_left : (left : Forms) → length left ≡ level → AreForms points w words left → number_in_levels lane (levels_in w words end forms) ≡ number_in_levels lane (levels_in w words end left)
-            → number ≡ number_in_levels lane (levels_in w words end forms)
-        by_left [] long are same = absurd (omega (arith, long, some))
-        by_left (form ∷ left) long are same =
-            let waits = waits_by lane (form_level w form (words level)) number (found form (subst (λ l. IsForm points w (words l) form) long are.0)) in
-            let here : is_past lane (form_level w form (words (suc (length left)))) ≡ false = ap (λ l. is_past lane (form_level w form (words l))) long ∙ waits.0 in
-            waits.1
-            ∙ ap (λ l. number_in lane (form_level w form (words l))) (sym long)
-            ∙ sym (same ∙ by_first form left
-            ∙ ap (λ b. if b then number_in_levels lane (levels_in w words end left) else number_in lane (form_level w form (words (suc (length left))))) here)
+      -- the lane is past it too
+      pub passed_next : answer ≡ None → ArePassed points w words end lane forms (level - 1)
+      passed_next none = by_left passed.left passed.long passed.are passed.same
+        where
+          by_left : (left : Forms) → length left ≡ level → AreForms points w words left → number_in_levels lane (levels_in w words end forms) ≡ number_in_levels lane (levels_in w words end left)
+              → ArePassed points w words end lane forms (level - 1)
+          by_left [] long are same = absurd (omega (arith, long, some))
+          by_left (form ∷ left) long are same =
+              let past = past_by lane (form_level w form (words (suc (length left)))) (sym none ∙ says_first form left long are) in
+              record { left = left; long = omega (arith, long); are = are.1; same = same ∙ past_first form left past }
+
+      -- it waits there
+      pub found_here : (number : StepNumber) → answer ≡ Some number → number ≡ number_in_levels lane (levels_in w words end forms)
+      found_here number found = by_left passed.left passed.long passed.are passed.same
+        where
+          by_left : (left : Forms) → length left ≡ level → AreForms points w words left → number_in_levels lane (levels_in w words end forms) ≡ number_in_levels lane (levels_in w words end left)
+              → number ≡ number_in_levels lane (levels_in w words end forms)
+          by_left [] long are same = absurd (omega (arith, long, some))
+          by_left (form ∷ left) long are same =
+              let waits = waits_by lane (form_level w form (words (suc (length left)))) number (sym found ∙ says_first form left long are) in
+              waits.1 ∙ sym (same ∙ waits_first form left waits.0)
 
   -- past all of them it waits in the function's body
-  pub found_in_body : (forms : Forms) (level : ℕ) → level ≡ 0 → ArePassed points w words end lane forms level → (number : StepNumber) → number ≡ number_in lane (body_level end (words 0).numbers)
-      → number ≡ number_in_levels lane (levels_in w words end forms)
-  found_in_body forms level none passed number is = by_left passed.left passed.long passed.same
+  pub found_in_body : (forms : Forms) (level : ℕ) → level ≡ 0 → ArePassed points w words end lane forms level → (brace number : StepNumber) → brace ≡ end
+      → number ≡ number_in lane (body_level brace (words 0).numbers) → number ≡ number_in_levels lane (levels_in w words end forms)
+  found_in_body forms level none passed brace number ended is = by_left passed.left passed.long passed.same
     where
       by_left : (left : Forms) → length left ≡ level → number_in_levels lane (levels_in w words end forms) ≡ number_in_levels lane (levels_in w words end left)
           → number ≡ number_in_levels lane (levels_in w words end forms)
-      by_left [] long same = is ∙ sym same
+      by_left [] long same = is ∙ ap (λ e. number_in lane (body_level e (words 0).numbers)) ended ∙ sym same
       by_left (form ∷ left) long same = absurd (omega (arith, long, none))
 
 -- ---- frames by their depths
@@ -177,6 +185,17 @@ record SpotIsOf (p : t.Program) (variables : Variables) (w : ℕ) (regions : Reg
   pub spot : spot_by_levels deep lane frames all ≡ Some (spot_in frame.function (number_in_levels lane levels))
 
 module _ (p : t.Program) (variables : Variables) (w : ℕ) (regions : Regions) (deep lane : ℕ) where
+  module _ (frame : Frame) (frames : List Frame) (levels : List Level) (rest : List (List Level)) where
+    spot_here : nat_le (length (frame ∷ frames)) deep ≡ true → spot_by_levels deep lane (frame ∷ frames) (levels ∷ rest) ≡ Some (spot_in frame.function (number_in_levels lane levels))
+    spot_here h = ap (λ b. if b then Some (spot_in frame.function (number_in_levels lane levels)) else spot_by_levels deep lane frames rest) h
+
+    spot_below : nat_le (length (frame ∷ frames)) deep ≡ false → spot_by_levels deep lane (frame ∷ frames) (levels ∷ rest) ≡ spot_by_levels deep lane frames rest
+    spot_below h = ap (λ b. if b then Some (spot_in frame.function (number_in_levels lane levels)) else spot_by_levels deep lane frames rest) h
+
+    of_below : (index : ℕ) → nat_le (length (frame ∷ frames)) deep ≡ false → SpotIsOf p variables w regions deep lane index frames rest
+        → SpotIsOf p variables w regions deep lane index (frame ∷ frames) (levels ∷ rest)
+    of_below index h lower = record { frame = lower.frame; levels = lower.levels; shows = lower.shows; spot = spot_below h ∙ lower.spot }
+
   spot_is_of : (frames : List Frame) (all : List (List Level)) (index : ℕ) → ShowsFrames p variables w regions frames all → min deep (length frames) ≡ suc index
       → SpotIsOf p variables w regions deep lane index frames all
   spot_is_of [] all index shown height = absurd (omega (arith, height))
@@ -185,21 +204,15 @@ module _ (p : t.Program) (variables : Variables) (w : ℕ) (regions : Regions) (
       elim (cases_lt deep (length (frame ∷ frames))) [
         | inl below ↦
             let deeper : nat_le (length (frame ∷ frames)) deep ≡ false = grind (arith, nat_tests, below) in
-            let lower = spot_is_of frames rest index shown.2 (omega (arith, below, height)) in
-            record {
-              frame = lower.frame;
-              levels = lower.levels;
-              shows = lower.shows;
-              spot = ap (λ b. if b then Some (spot_in frame.function (number_in_levels lane levels)) else spot_by_levels deep lane frames rest) deeper ∙ lower.spot;
-            }
+            of_below frame frames levels rest index deeper (spot_is_of frames rest index shown.2 (omega (arith, below, height)))
         | inr reached ↦
-            let here : nat_le (length (frame ∷ frames)) deep ≡ true = grind (arith, nat_tests, reached) in
+            let there : nat_le (length (frame ∷ frames)) deep ≡ true = grind (arith, nat_tests, reached) in
             let same : length frames ≡ index = omega (arith, reached, height) in
             record {
               frame = frame;
               levels = levels;
               shows = subst (λ i. ShowsFrame p variables w regions i frame levels) same shown.0;
-              spot = ap (λ b. if b then Some (spot_in frame.function (number_in_levels lane levels)) else spot_by_levels deep lane frames rest) here;
+              spot = spot_here frame frames levels rest there;
             }
       ]
 
@@ -209,8 +222,7 @@ module _ (p : t.Program) (variables : Variables) (w : ℕ) (regions : Regions) (
   nowhere (frame ∷ frames) [] none = refl
   nowhere (frame ∷ frames) (levels ∷ rest) none =
       let below : nat_le (length (frame ∷ frames)) deep ≡ false = grind (arith, nat_tests, none) in
-      ap (λ b. if b then Some (spot_in frame.function (number_in_levels lane levels)) else spot_by_levels deep lane frames rest) below
-      ∙ nowhere frames rest (omega (arith, none))
+      spot_below frame frames levels rest below ∙ nowhere frames rest (omega (arith, none))
 
 module _ {T : Type 0} (history : T → History) (w : ℕ) (compiled : CompiledProgram) (words : MachineWords T) (masked : Masked) (shown : IsShown history w compiled words masked) (deep lane : ℕ) where
   abbrev regions : Regions

@@ -58,11 +58,10 @@ fn lane_number<const W: usize, T: Timeline + Drop>(
 {
     let mut level = innermost;
     while level > 0 {
-        if let Some(number) = number_in_form::<W, T>(compiled, words, frame, function, level, lane)
-        {
-            return number;
+        match number_in_form::<W, T>(compiled, words, frame, function, level, lane) {
+            Some(number) => return number,
+            None => level -= 1,
         }
-        level -= 1;
     }
     number_at::<W, T>(words, frame, 0, compiled.closing(function) as u64, lane)
 }
@@ -90,11 +89,10 @@ fn number_in_form<const W: usize, T: Timeline + Drop>(
     }
     let form = compiled.round_form(function, end as usize);
     let left = kept_rounds::<W, T>(words, frame, level, form);
-    if left.is_any_left() {
-        Some(number)
-    } else {
-        None
+    if !left.is_any_left() {
+        return None;
     }
+    Some(end)
 }
 
 /// What a lane waits for in a level of a frame with this end; one that the gang does not have is at the end.

@@ -1,10 +1,7 @@
-use Rattle.std.proofs.Common.{◌≡◌, ◌∙◌, sym, ap, arith, Some, None}
+use Rattle.std.proofs.Common.{arith}
 use Rattle.mask_states.specs.Points.{closing_number, points_in}
-use Rattle.machine_states.specs.Levels.{body_level}
-use Rattle.machine_states.specs.Regions.{NumbersOf, OfLevel}
 use Rattle.machine_states.specs.Shows.{level_words}
 use Rattle.machine_words.specs.Words.{regions_in}
-use Rattle.lane_places.specs.Levels.{number_in}
 use Rattle.gang_machine.proofs.LaneNumbers.{found_here, found_in_body, next_form, passed_first, passed_next}
 use Rattle.gang_machine.proofs.lanes.lane_number.Goals as goal
 
@@ -24,17 +21,16 @@ pub loop-level-preserved : goal.loop-level-preserved
 loop-level-preserved g c has =
     let regions = regions_in g.T.Timeline.history g.row.W c.args.words.now in
     passed_next (points_in has.f) g.row.W (level_words regions c.args.frame) (closing_number has.f) c.args.lane has.forms c.loop-level.level (omega arith) (c.loop-level.invariant has)
-    (λ form is. sym c.in-None.is ∙ c.number_in_form.ensures form (record { f = has.f; is_function = has.is_function; is_form = is }))
+    c.number_in_form.result (λ form is. c.number_in_form.ensures form (record { f = has.f; is_function = has.is_function; is_form = is })) c.in-None.is
 
 pub returns-in-Some : goal.returns-in-Some
 returns-in-Some g c has =
     let regions = regions_in g.T.Timeline.history g.row.W c.args.words.now in
     found_here (points_in has.f) g.row.W (level_words regions c.args.frame) (closing_number has.f) c.args.lane has.forms c.loop-level.level (omega arith) (c.loop-level.invariant has)
-    c.in-Some.number (λ form is. sym c.in-Some.is ∙ c.number_in_form.ensures form (record { f = has.f; is_function = has.is_function; is_form = is }))
+    c.number_in_form.result (λ form is. c.number_in_form.ensures form (record { f = has.f; is_function = has.is_function; is_form = is })) c.in-Some.number c.in-Some.is
 
-pub returns-after-loop-level : goal.returns-after-loop-level
-returns-after-loop-level g c has =
+pub returns : goal.returns
+returns g c has =
     let regions = regions_in g.T.Timeline.history g.row.W c.args.words.now in
     found_in_body (points_in has.f) g.row.W (level_words regions c.args.frame) (closing_number has.f) c.args.lane has.forms c.loop-level.level (omega arith) (c.loop-level.invariant has)
-    c.number_at.result
-    (c.number_at.ensures ∙ ap (λ end. number_in c.args.lane (body_level end (regions (OfLevel c.args.frame 0 NumbersOf)))) (c.closing.ensures has.f has.is_function))
+    c.closing.result c.number_at.result (c.closing.ensures has.f has.is_function) c.number_at.ensures

@@ -1,12 +1,8 @@
-use Rattle.std.proofs.Common.{◌≡◌, ◌∙◌, sym, ap, arith}
-use Rattle.gang_model.specs.Types.Tree.{RoundsOf}
-use Rattle.machine_states.specs.Levels.{body_level, form_level}
-use Rattle.machine_states.specs.Regions.{NumbersOf, OfLevel}
+use Rattle.std.proofs.Common.{arith}
 use Rattle.machine_states.specs.Shows.{level_words}
 use Rattle.machine_words.specs.Words.{regions_in}
 use Rattle.frame_steps.proofs.FrameLevels.{any_left, end_there, keeps_here, rounds_here}
 use Rattle.frame_steps.proofs.GangLanes.{rounds_small}
-use Rattle.lane_places.specs.Levels.{number_in}
 use Rattle.gang_machine.proofs.LaneNumbers.{in_round, none_left, round_left}
 use Rattle.gang_machine.proofs.lanes.number_in_form.Goals as goal
 
@@ -50,27 +46,24 @@ is_any_left-requires g c =
 pub returns-then-number-end : goal.returns-then-number-end
 returns-then-number-end g c form has =
     let regions = regions_in g.T.Timeline.history g.row.W c.args.words.now in
-    let number = c.number_at-number.ensures ∙ ap (λ end. number_in c.args.lane (body_level end (regions (OfLevel c.args.frame c.args.level NumbersOf)))) c.word-end.ensures in
-    in_round g.row.W c.args.lane form (level_words regions c.args.frame c.args.level) c.number_at-number.result number (λ e. c.if-number-end.true (e ∙ sym c.word-end.ensures))
+    in_round g.row.W c.args.lane form (level_words regions c.args.frame c.args.level) c.word-end.result c.number_at-number.result c.word-end.ensures c.number_at-number.ensures c.if-number-end.true
 
-pub returns-then-is_any_left : goal.returns-then-is_any_left
-returns-then-is_any_left g c form has =
+pub returns : goal.returns
+returns g c form has =
     let lie = c.requires.lie in
     let regions = regions_in g.T.Timeline.history g.row.W c.args.words.now in
-    let number = c.number_at-number.ensures ∙ ap (λ end. number_in c.args.lane (body_level end (regions (OfLevel c.args.frame c.args.level NumbersOf)))) c.word-end.ensures in
     let is = rounds_here g.row.W c.args.compiled.now lie.compiled_is regions c.args.frame c.args.level c.args.function form has c.word-end.result c.word-end.ensures in
     let keeps = keeps_here g.row.W c.args.compiled.now lie.compiled_is regions c.args.frame c.args.level c.args.function form has c.round_form-form.result.now (c.round_form-form.ensures has.f form is) in
-    round_left g.row.W c.args.lane form (level_words regions c.args.frame c.args.level) c.number_at-number.result number c.is_any_left.result
+    round_left g.row.W c.args.lane form (level_words regions c.args.frame c.args.level) c.word-end.result c.number_at-number.result c.word-end.ensures c.number_at-number.ensures c.is_any_left.result
     (any_left g.row.W regions c.args.frame c.args.level form c.kept_rounds-left.result c.is_any_left.result (c.kept_rounds-left.ensures form keeps) c.is_any_left.ensures)
-    c.if-is_any_left.true
+    c.if-not-is_any_left.false c.if-number-end.false
 
-pub returns-else-is_any_left : goal.returns-else-is_any_left
-returns-else-is_any_left g c form has =
+pub returns-then-not-is_any_left : goal.returns-then-not-is_any_left
+returns-then-not-is_any_left g c form has =
     let lie = c.requires.lie in
     let regions = regions_in g.T.Timeline.history g.row.W c.args.words.now in
-    let number = c.number_at-number.ensures ∙ ap (λ end. number_in c.args.lane (body_level end (regions (OfLevel c.args.frame c.args.level NumbersOf)))) c.word-end.ensures in
     let is = rounds_here g.row.W c.args.compiled.now lie.compiled_is regions c.args.frame c.args.level c.args.function form has c.word-end.result c.word-end.ensures in
     let keeps = keeps_here g.row.W c.args.compiled.now lie.compiled_is regions c.args.frame c.args.level c.args.function form has c.round_form-form.result.now (c.round_form-form.ensures has.f form is) in
-    none_left g.row.W c.args.lane form (level_words regions c.args.frame c.args.level) c.number_at-number.result number c.is_any_left.result (c.if-number-end.false ∙ c.word-end.ensures)
+    none_left g.row.W c.args.lane form (level_words regions c.args.frame c.args.level) c.word-end.result c.number_at-number.result c.word-end.ensures c.number_at-number.ensures c.is_any_left.result
     (any_left g.row.W regions c.args.frame c.args.level form c.kept_rounds-left.result c.is_any_left.result (c.kept_rounds-left.ensures form keeps) c.is_any_left.ensures)
-    c.if-is_any_left.false
+    c.if-not-is_any_left.true c.if-number-end.false
