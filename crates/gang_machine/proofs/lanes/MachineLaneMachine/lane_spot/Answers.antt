@@ -1,4 +1,4 @@
-use Rattle.std.proofs.Common.{◌∙◌, sym, ap, subst}
+use Rattle.std.proofs.Common.{◌∙◌, sym, subst}
 use Rattle.gang_machine.specs.Standings.{Stands}
 use Rattle.gang_machine.proofs.LaneNumbers.{forms_there, frame_there, lane_spot_by, lane_spot_is, none_at}
 use Rattle.gang_machine.proofs.Seeing.{shown_here}
