@@ -12,6 +12,7 @@ mod FrameValues
 pub mod FrameViews
 pub mod HeadSizes
 pub mod Keeping
+mod LaneNumbers
 mod Lasting
 pub mod Limiting
 mod NamedViews

@@ -1,5 +1,6 @@
 pub mod Again
 pub mod FileWords
+pub mod LaneNumbers
 pub mod Machines
 pub mod Nexts
 pub mod Openings

@@ -4,6 +4,7 @@
 mod again;
 mod expressions;
 mod frames;
+mod lanes;
 mod machine;
 mod mover;
 mod opening;

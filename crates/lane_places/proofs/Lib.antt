@@ -1,1 +1,4 @@
+pub mod LanesAlike
 mod Rows
+mod StepEntries
+mod TasksAhead

@@ -4,7 +4,7 @@ use Rattle.std.specs.Prelude.{ℕ, Bool, true, false, not, ◌&&◌, ◌||◌, n
 use Rattle.gang_types.specs.declared.places.Spot.{Spot}
 use Rattle.gang_types.specs.Lanes.{has, no_lane}
 use Rattle.gang_model.specs.Types.Tree.{StepNumber, Function, Program}
-use Rattle.gang_model.specs.Running.State.{Doing, Run, LoopTest, LoopUpdate, Round, RoundEnd, SwitchEnd, Task, Frame, State}
+use Rattle.gang_model.specs.Running.State.{Doing, Round, Task, Frame, State}
 use Rattle.gang_model.specs.Debugger.Positions.{closing_of, spot_in}
 use Rattle.mask_states.specs.Stands.{waits}
 

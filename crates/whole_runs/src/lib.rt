@@ -6,6 +6,7 @@ mod copies_over;
 mod expressions;
 mod framed;
 mod kept_copies;
+mod lanes;
 mod machine;
 mod notes;
 mod pokes;
