@@ -35,9 +35,9 @@ position_lanes None = []
 position_lanes (Some p) = lanes_of p.width p.lanes
 
 -- the place of a standing
-abbrev pub place_of : Option Standing → Option Place
-place_of standing = option_map (λ it. it.place) standing
+abbrev pub standing_place : Option Standing → Option Place
+standing_place standing = option_map (λ it. it.place) standing
 
 -- where in the source a lane waits in the frame at a depth
 abbrev pub lane_place : Program → (depth lane : ℕ) → State → Option Place
-lane_place p deep lane state = place_of (standing_of p (lane_spot_at p deep lane state))
+lane_place p deep lane state = standing_place (standing_of p (lane_spot_at p deep lane state))

@@ -5,7 +5,7 @@ ghost use Rattle.gang_model.specs.Debugger.Debugger.{Debugger, Setting, now};
 ghost use Rattle.gang_model.specs.Debugger.Positions.{standing_at};
 ghost use Rattle.typed_tree.specs.Views.{function_view, program_view};
 ghost use Rattle.adapter_replies.specs.Waiting as spec;
-ghost use Rattle.adapter_replies.specs.Waiting.{place_of, position_lanes, shown_lanes, waits};
+ghost use Rattle.adapter_replies.specs.Waiting.{standing_place, position_lanes, shown_lanes, waits};
 
 use crate::places::depth_of;
 use debug_traits::{Position, RecordedMachine};
@@ -51,7 +51,7 @@ pub(crate) fn lane_place<M: LaneMachine>(machine: &M, depth: usize, lane: usize)
 
 /// The place of a step of a program, if it has the step.
 fn step_place(program: &Program, spot: Spot) -> Option<Place>
-    ensures { result ≡ place_of (standing_at (program_view program.now) spot) }
+    ensures { result ≡ standing_place (standing_at (program_view program.now) spot) }
 {
     match program.functions.get(spot.function.0) {
         None => None,
@@ -61,7 +61,7 @@ fn step_place(program: &Program, spot: Spot) -> Option<Place>
 
 /// The place of a step of a function, if it has the step.
 fn place_in(function: &Function, number: usize) -> Option<Place>
-    ensures { result ≡ place_of (slice_get (function_view function.now).standings number) }
+    ensures { result ≡ standing_place (slice_get (function_view function.now).standings number) }
 {
     match function.scopes.standings.get(number) {
         None => None,
