@@ -8,4 +8,5 @@ setlocal comments=s1:/*,mb:*,ex:*/,://
 setlocal commentstring=//\ %s
 setlocal formatoptions-=t formatoptions+=croql
 setlocal suffixesadd=.ispc
-let b:undo_ftplugin = "setlocal comments< commentstring< formatoptions< suffixesadd<"
+setlocal shiftwidth=4 softtabstop=4 expandtab
+let b:undo_ftplugin = "setlocal comments< commentstring< formatoptions< suffixesadd< shiftwidth< softtabstop< expandtab<"
