@@ -1,4 +1,5 @@
 mod ConsoleLines
+mod HeardMessages
 mod Launches
 mod OpenReferences
 mod OpenedEvents

@@ -1,5 +1,5 @@
 -- What is told for a request, and where a run begins.
-use Rattle.std.proofs.Common.{◌≡◌, ℕ, Bool, true, false, Option, Some, None, Result, Ok, Err, OnOk, refl, subst, sym}
+use Rattle.std.proofs.Common.{◌≡◌, ℕ, Bool, true, false, List, Option, Some, None, Result, Ok, Err, OnOk, refl, subst, sym}
 use Rattle.serde_json.specs.Data.{Data}
 use Rattle.gang_model.specs.Debugger.Debugger.{Debugger, Setting}
 use Rattle.gang_model.specs.Texts.Text.{Bytes}
@@ -7,6 +7,8 @@ use Rattle.debug_session.specs.Sessions.{StandsFor}
 use Rattle.conditional_stops.specs.declared.reasons.CountedStop.{CountedStop}
 use Rattle.adapter_requests.specs.declared.request.Request.{Request}
 use Rattle.adapter_requests.specs.declared.request.Request.TheVariants as request
+use Rattle.adapter_requests.specs.declared.reply.Reply.{Reply}
+use Rattle.adapter_messages.specs.Replies.{message_of}
 use Rattle.adapter_replies.specs.declared.threads.Threads.{Threads}
 use Rattle.adapter_session.specs.declared.answering.Answered.{Answered}
 use Rattle.adapter_session.specs.declared.beginning.Beginning.{Beginning}
@@ -14,9 +16,10 @@ use Rattle.adapter_session.specs.Done.{DoesRequest}
 use Rattle.opened_texts.specs.declared.texts.OpenedTexts.{OpenedTexts}
 use Rattle.adapter_server.specs.declared.connection.Connection.{Connection}
 use Rattle.adapter_server.specs.Events.{events_at_beginning, events_behind, events_on_entry}
+use Rattle.adapter_server.specs.Opening.{MayOpen}
 use Rattle.adapter_server.specs.Sending.{Sends}
 use Rattle.adapter_server.specs.Serving.{AsksHere, Run}
-use Rattle.adapter_server.specs.Telling.{SendsReply, TellsBeginning, TellsOne, TellsUnless}
+use Rattle.adapter_server.specs.Telling.{SendsReply, TellsBeginning, TellsOne, TellsUnless, reply_to}
 
 module _ {M R O : Type 0} (stands : M → Setting → Debugger → Type 0) (contents : O → Option Bytes) (seen : Threads) (program : Bytes) where
   -- a request was done, and what is behind it was sent unless something failed
@@ -63,3 +66,14 @@ pub replied_same : {R O : Type 0} (contents : O → Option Bytes) (before after 
     → SendsReply contents (record before { opened = opened }) after message → SendsReply contents before after message
 replied_same contents before after opened message sends =
     record { sent = record { text = sends.sent.text; in_order = sends.sent.in_order; bytes = sends.sent.bytes }; next = sends.next; stopped = sends.stopped; hears = sends.hears }
+
+-- a reply is told by the number and the command of its request
+pub replied_by : {R O : Type 0} (contents : O → Option Bytes) (before after : Connection R O) (program : Bytes) (reply : Reply) (number : ℕ) (command : Bytes) (head : ℕ × Bytes) → number ≡ head.0 → command ≡ head.1
+    → SendsReply contents before after (λ n. message_of n number command program reply) → SendsReply contents before after (reply_to head program reply)
+replied_by contents before after program reply number command head is_number is_command sends =
+    subst (λ c. SendsReply contents before after (λ n. message_of n head.0 c program reply)) is_command
+    (subst (λ m. SendsReply contents before after (λ n. message_of n m command program reply)) is_number sends)
+
+-- what opens of a reply is told where the texts are the same
+pub opens_same : (s : Setting) (d : Debugger) (asked : Request) (told given : Reply) (old new : List (ℕ × Bytes)) (kept : List (ℕ × Bytes)) → kept ≡ new → MayOpen s d asked told old given new → MayOpen s d asked told old given kept
+opens_same s d asked told given old new kept same opens = subst (λ texts. MayOpen s d asked told old given texts) (sym same) opens

@@ -1,5 +1,6 @@
 pub mod Effects
 pub mod Events
+pub mod Hearing
 pub mod Opening
 pub mod Sending
 pub mod Serving

@@ -1,5 +1,5 @@
 -- How events are sent: each as the frame of its message, which has a number of its own.
-use Rattle.std.specs.Prelude.{◌≡◌, ℕ, ◌+◌, ◌-◌, ◌^◌, min, List, [], ◌∷◌, ◌++◌, codes, Option}
+use Rattle.std.specs.Prelude.{◌≡◌, ℕ, ◌+◌, ◌-◌, ◌^◌, min, List, [], ◌∷◌, ◌++◌, codes, map, Option}
 use Rattle.std.specs.Io.KnownBytes.{Appends}
 use Rattle.serde_json.specs.Data.{Data, no_members, object}
 use Rattle.serde_json.specs.Written.{compact_text}
@@ -7,6 +7,7 @@ use Rattle.gang_model.specs.Texts.Text.{Bytes}
 use Rattle.adapter_frames.specs.Frames.{frame}
 use Rattle.adapter_messages.specs.Messages.{event}
 use Rattle.adapter_messages.specs.Replies.{change_body, output_body, stop_body}
+use Rattle.opened_texts.specs.Texts.{texts_of}
 use Rattle.adapter_server.specs.declared.connection.Connection.{Connection}
 use Rattle.adapter_server.specs.Events.{ToldEvent, Says, Stops, Changes, Ends, last_stop}
 
@@ -20,6 +21,14 @@ event_data (Says text) number = event number (codes "output") (output_body text)
 event_data (Stops reason thread text) number = event number (codes "stopped") (stop_body reason thread text)
 event_data Changes number = event number (codes "invalidated") change_body
 event_data Ends number = event number (codes "terminated") (object no_members)
+
+-- the texts that are open once these events are told: a stop closes them
+abbrev pub left_open : (texts : List (ℕ × Bytes)) → List ToldEvent → List (ℕ × Bytes)
+left_open texts [] = texts
+left_open texts (Says text ∷ others) = left_open texts others
+left_open texts (Stops reason thread text ∷ others) = left_open [] others
+left_open texts (Changes ∷ others) = left_open texts others
+left_open texts (Ends ∷ others) = left_open texts others
 
 -- the bytes of a message
 abbrev pub message_bytes : Data → Bytes
@@ -45,9 +54,15 @@ pub record SendsOne {R O : Type 0} (contents : O → Option Bytes) (old new : Co
   pub next : new.next ≡ number_behind old.next
   pub hears : new.hears_changes ≡ old.hears_changes
 
--- events were sent in their order, and nothing else; and the last stop is kept
+-- events were sent in their order, and nothing else; the last stop is kept, and it closes the texts that were open
 pub record Sends {R O : Type 0} (contents : O → Option Bytes) (old new : Connection R O) (events : List ToldEvent) : Type 0 where
   pub bytes : Appends (given contents old) (given contents new) (events_bytes old.next events)
   pub next : new.next ≡ number_behind_all old.next events
   pub stopped : new.stopped ≡ last_stop old.stopped events
+  pub opened : texts_of new.opened ≡ left_open (texts_of old.opened) events
   pub hears : new.hears_changes ≡ old.hears_changes
+
+-- lines of the console were sent, and nothing else
+pub record SaysLines {R O : Type 0} (contents : O → Option Bytes) (old new : Connection R O) : Type 0 where
+  pub texts : List Bytes
+  pub sends : Sends contents old new (map Says texts)

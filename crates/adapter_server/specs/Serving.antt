@@ -18,10 +18,11 @@ use Rattle.log_points.specs.Writing.{WritesHere}
 use Rattle.adapter_requests.specs.declared.request.Launch.{Launch}
 use Rattle.adapter_requests.specs.declared.request.Request.{Request}
 use Rattle.adapter_requests.specs.declared.request.Request.TheVariants as request
+use Rattle.adapter_replies.specs.declared.threads.Threads.{Threads}
 use Rattle.adapter_frames.specs.declared.reading.FrameReader.{FrameReader}
 use Rattle.adapter_frames.specs.Reading as frames
 use Rattle.adapter_frames.specs.Reading.{Gives}
-use Rattle.adapter_messages.specs.Arguments.{IsRequest, flag_at, text_at}
+use Rattle.adapter_messages.specs.Arguments.{IsRequest, flag_at, number_at, text_at}
 use Rattle.adapter_session.specs.declared.answering.Answered.{Answered}
 use Rattle.adapter_session.specs.declared.beginning.Beginning.{Beginning}
 use Rattle.adapter_session.specs.declared.terms.Terms.{Terms as GivenTerms}
@@ -32,6 +33,7 @@ use Rattle.adapter_server.specs.declared.connection.Connection.{Connection}
 use Rattle.adapter_server.specs.declared.files.FileNumber.{FileNumber}
 use Rattle.adapter_server.specs.declared.launching.LaunchMessage.{LaunchMessage}
 use Rattle.adapter_server.specs.Spelling.{IsPathFor}
+use Rattle.adapter_server.specs.Threads.{threads_if, threads_of}
 
 -- the path of the program that a launch names
 abbrev pub path_of : LaunchMessage → Bytes
@@ -45,16 +47,21 @@ messages_of connection = connection.messages
 abbrev pub unread : {R O : Type 0} → (R → Option Bytes) → Connection R O → Option Bytes
 unread left connection = frames.unread left (messages_of connection)
 
--- what of a launch decides what is done: the path of its program, and whether it stops before its first step
+-- what of a launch decides what is done and told: the path of its program, whether it stops before its first step, and its threads
 pub record Setup : Type 0 where
   pub program : Bytes
   pub stops_on_entry : Bool
+  pub threads : Threads
 
 abbrev pub setup_by : Launch → Setup
-setup_by launch = record { program = launch.program.now; stops_on_entry = launch.stops_on_entry }
+setup_by launch = record { program = launch.program.now; stops_on_entry = launch.stops_on_entry; threads = threads_of launch }
 
 abbrev pub setup_of : LaunchMessage → Setup
-setup_of launch = record { program = path_of launch; stops_on_entry = unwrap_or (flag_at (codes "/arguments/stopOnEntry") (view launch.message)) true }
+setup_of launch = record {
+  program = path_of launch;
+  stops_on_entry = unwrap_or (flag_at (codes "/arguments/stopOnEntry") (view launch.message)) true;
+  threads = threads_if (unwrap_or (flag_at (codes "/arguments/laneThreads") (view launch.message)) false) (number_at (codes "/arguments/width") (view launch.message));
+}
 
 -- ---- what is done to a session
 

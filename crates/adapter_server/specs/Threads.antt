@@ -1,5 +1,5 @@
 -- The threads that the editor of a launch sees, and what is told of them.
-use Rattle.std.specs.Prelude.{ℕ, List, Option, Some, None, unwrap_or, if◌then◌else◌}
+use Rattle.std.specs.Prelude.{ℕ, Bool, List, Option, Some, None, unwrap_or, if◌then◌else◌}
 use Rattle.gang_model.specs.Debugger.Debugger.{Debugger, Setting}
 use Rattle.gang_model.specs.Texts.Text.{Bytes}
 use Rattle.debug_session.specs.Sessions.{bare}
@@ -14,9 +14,12 @@ use Rattle.adapter_replies.specs.Exceptions.{IsExceptionTold}
 use Rattle.adapter_replies.specs.Threads.{IsThreadTold}
 use Rattle.adapter_server.specs.Opening.{AreChildrenAt, text_at}
 
--- each lane of a gang of so many, 4 where the launch says no number, or the gang
+-- each lane of a gang of so many, 4 where no number is said, or the gang
+abbrev pub threads_if : (lane_threads : Bool) → (width : Option ℕ) → Threads
+threads_if lane_threads width = if lane_threads then threads.Lanes (unwrap_or width 4) else threads.Gang
+
 abbrev pub threads_of : Launch → Threads
-threads_of launch = if launch.lane_threads then threads.Lanes (unwrap_or launch.width 4) else threads.Gang
+threads_of launch = threads_if launch.lane_threads launch.width
 
 -- the fault of the last stop is told
 abbrev pub IsFaultTold : StopReason → Option Reply → Type 0

@@ -1,5 +1,5 @@
 //! A connection to an editor: the messages that it sends, and what it is told.
-ghost use Rattle.std.specs.Prelude.{◌≡◌, MatchResult, OnOk, [], codes, false};
+ghost use Rattle.std.specs.Prelude.{◌≡◌, MatchResult, OnOk, [], ◌∷◌, codes, false};
 ghost use Rattle.std.specs.Io.KnownBytes.{Appends};
 ghost use Rattle.serde_json.specs.View.{view};
 ghost use Rattle.opened_texts.specs.Texts.{texts_of};
@@ -57,9 +57,10 @@ pub struct Connection<R, O> {
 impl<R: Read, O: Write> Connection<R, O> {
     ghost use Rattle.serde_json.specs.Data.{no_members, object};
     ghost use Rattle.serde_json.specs.Written.{has_float};
-    ghost use Rattle.adapter_messages.specs.Messages.{event};
+    ghost use Rattle.adapter_messages.specs.Messages.{event, failure};
     ghost use Rattle.adapter_messages.specs.Replies.{change_body, message_of, output_body, stop_body};
-    ghost use Rattle.adapter_server.specs.Sending.{SendsOne, given, message_bytes, number_behind};
+    ghost use Rattle.adapter_server.specs.Sending.{SaysLines, Sends, SendsOne, given, message_bytes, number_behind};
+    ghost use Rattle.adapter_server.specs.Events.{Says};
     ghost use Rattle.adapter_server.specs.Serving.{LetsGo, Reads, ReadsJson, messages_of, unread};
     ghost use Rattle.adapter_server.specs.Telling.{SendsReply, SendsText};
 
@@ -82,9 +83,10 @@ impl<R: Read, O: Write> Connection<R, O> {
     /// The next message that is JSON. What comes before it is refused, and the console is told why.
     #[tactic(auto, using(crate::proofs::ReadMessages::lets_more_go, crate::proofs::ReadMessages::reading))]
     pub(crate) fn next_value(&mut self) -> Result<Value, Ended>
-        ensures { MatchResult result
+        ensures read { MatchResult result
             (λ value. ReadsJson (unread R.remaining self.old) (unread R.remaining self.new) (view value))
             (λ ended. LetsGo (unread R.remaining self.old) (unread R.remaining self.new)) }
+        ensures said { OnOk result (SaysLines O.contents self.old self.new) }
     {
         for _ in 0..u64::MAX {
             let message = self.next_message()?;
@@ -98,7 +100,8 @@ impl<R: Read, O: Write> Connection<R, O> {
 
     /// Tells that a message is no JSON.
     fn refuse_text(&mut self, fault: &JsonError) -> Result<(), Ended>
-        ensures { messages_of self.new ≡ messages_of self.old }
+        ensures said { OnOk result (SaysLines O.contents self.old self.new) }
+        ensures messages { messages_of self.new ≡ messages_of self.old }
     {
         if fault.is_memory() {
             return Err(Ended::Memory);
@@ -109,9 +112,10 @@ impl<R: Read, O: Write> Connection<R, O> {
     /// The next message. Frames that come before it are refused, and the console is told why.
     #[tactic(auto, using(crate::proofs::ReadMessages::lets_more_go, crate::proofs::ReadMessages::keeping))]
     fn next_message(&mut self) -> Result<Vec<u8>, Ended>
-        ensures { MatchResult result
+        ensures read { MatchResult result
             (λ message. Reads (unread R.remaining self.old) (unread R.remaining self.new) message.items)
             (λ ended. LetsGo (unread R.remaining self.old) (unread R.remaining self.new)) }
+        ensures said { OnOk result (SaysLines O.contents self.old self.new) }
     {
         for _ in 0..u64::MAX {
             match self.messages.next_message(self.alloc) {
@@ -131,7 +135,8 @@ impl<R: Read, O: Write> Connection<R, O> {
 
     /// Tells why the head of a frame is refused.
     fn refuse_head(&mut self, fault: HeadFault) -> Result<(), Ended>
-        ensures { messages_of self.new ≡ messages_of self.old }
+        ensures said { OnOk result (SaysLines O.contents self.old self.new) }
+        ensures messages { messages_of self.new ≡ messages_of self.old }
     {
         let text = format!(in self.alloc; "a message is refused: {fault}\n")?;
         self.tell_console(text.as_str())
@@ -145,6 +150,7 @@ impl<R: Read, O: Write> Connection<R, O> {
         reply: &Reply,
     ) -> Result<(), Ended>
         ensures sent { OnOk result (SendsReply O.contents self.old self.new (λ number. message_of number head.entry.number head.entry.command.now program.now reply.now)) }
+        ensures opened { self.new.opened ≡ self.old.opened }
         ensures messages { messages_of self.new ≡ messages_of self.old }
     {
         let number = self.number();
@@ -154,7 +160,9 @@ impl<R: Read, O: Write> Connection<R, O> {
 
     /// Refuses a request.
     pub(crate) fn refuse(&mut self, head: Head<'_>, text: &str) -> Result<(), Ended>
-        ensures { messages_of self.new ≡ messages_of self.old }
+        ensures sent { OnOk result (SendsReply O.contents self.old self.new (λ number. failure number head.entry.number head.entry.command.now text.now)) }
+        ensures opened { self.new.opened ≡ self.old.opened }
+        ensures messages { messages_of self.new ≡ messages_of self.old }
     {
         let number = self.number();
         let message = failure_message(self.alloc, number, head, text)?;
@@ -165,6 +173,7 @@ impl<R: Read, O: Write> Connection<R, O> {
     pub(crate) fn tell(&mut self, name: &str) -> Result<(), Ended>
         ensures sent { OnOk result (SendsOne O.contents self.old self.new (λ number. event number name.now (object no_members))) }
         ensures stopped { self.new.stopped ≡ self.old.stopped }
+        ensures opened { self.new.opened ≡ self.old.opened }
         ensures messages { messages_of self.new ≡ messages_of self.old }
     {
         let body = Value::Object(Map::new(self.alloc));
@@ -194,6 +203,7 @@ impl<R: Read, O: Write> Connection<R, O> {
     pub(crate) fn tell_change(&mut self) -> Result<(), Ended>
         ensures sent { OnOk result (SendsOne O.contents self.old self.new (λ number. event number (codes "invalidated") change_body)) }
         ensures stopped { self.new.stopped ≡ self.old.stopped }
+        ensures opened { self.new.opened ≡ self.old.opened }
         ensures messages { messages_of self.new ≡ messages_of self.old }
     {
         let body = change_body(self.alloc)?;
@@ -203,7 +213,9 @@ impl<R: Read, O: Write> Connection<R, O> {
     /// Puts a text on the editor's console.
     pub(crate) fn tell_console(&mut self, text: &str) -> Result<(), Ended>
         ensures sent { OnOk result (SendsOne O.contents self.old self.new (λ number. event number (codes "output") (output_body text.now))) }
+        ensures said { OnOk result (Sends O.contents self.old self.new (Says text.now ∷ [])) }
         ensures stopped { self.new.stopped ≡ self.old.stopped }
+        ensures opened { self.new.opened ≡ self.old.opened }
         ensures messages { messages_of self.new ≡ messages_of self.old }
     {
         let body = output_body(self.alloc, text)?;
@@ -213,6 +225,7 @@ impl<R: Read, O: Write> Connection<R, O> {
     fn tell_with(&mut self, name: &str, body: Value) -> Result<(), Ended>
         ensures sent { has_float (view body) ≡ false → OnOk result (SendsOne O.contents self.old self.new (λ number. event number name.now (view body))) }
         ensures stopped { self.new.stopped ≡ self.old.stopped }
+        ensures opened { self.new.opened ≡ self.old.opened }
         ensures messages { messages_of self.new ≡ messages_of self.old }
     {
         let number = self.number();

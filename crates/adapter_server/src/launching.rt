@@ -1,8 +1,12 @@
 //! What comes before a launch.
-ghost use Rattle.std.specs.Prelude.{◌≡◌, IfSome};
+ghost use Rattle.std.specs.Prelude.{◌≡◌, IfOk, IfSome, OnOk};
 ghost use Rattle.serde_json.specs.View.{view};
-ghost use Rattle.adapter_messages.specs.Arguments.{IsLaunch};
-ghost use Rattle.adapter_server.specs.Serving.{path_of, setup_by, setup_of};
+ghost use Rattle.adapter_requests.specs.declared.request.Launch.{Launch};
+ghost use Rattle.adapter_requests.specs.declared.request.Request.TheVariants as variant;
+ghost use Rattle.adapter_messages.specs.Arguments.{IsLaunch, head_of};
+ghost use Rattle.adapter_server.specs.declared.launching.Before.TheVariants.{Launches};
+ghost use Rattle.adapter_server.specs.Hearing.{AwaitsLaunch, HearsBefore, IsLaunching, Refuses, TellsBefore, head_in};
+ghost use Rattle.adapter_server.specs.Serving.{messages_of, path_of, setup_by, setup_of};
 
 use crate::connection::{Connection, Ended};
 use adapter_messages::{Head, read_head, read_request};
@@ -33,7 +37,10 @@ impl LaunchMessage {
     }
 
     /// The number and the command of the request.
-    pub(crate) fn head(&self) -> Head<'_> {
+    pub(crate) fn head(&self) -> Head<'_>
+        ensures number { result.number ≡ (head_in self.now).0 }
+        ensures command { result.command.now ≡ (head_in self.now).1 }
+    {
         match read_head(&self.message) {
             Some(head) => head,
             None => Head {
@@ -58,7 +65,9 @@ impl<R: Read, O: Write> Connection<R, O> {
     /// # Errors
     ///
     /// How the connection ended before a launch came.
-    pub fn await_launch(&mut self) -> Result<LaunchMessage, Ended> {
+    pub fn await_launch(&mut self) -> Result<LaunchMessage, Ended>
+        ensures { IfOk result (λ launch. AwaitsLaunch R.remaining O.contents launch self.old self.new) }
+    {
         for _ in 0..u64::MAX {
             let message = self.next_value()?;
             match self.answer_before(&message)? {
@@ -78,12 +87,18 @@ impl<R: Read, O: Write> Connection<R, O> {
     /// # Errors
     ///
     /// The writer fails, or out of memory.
-    pub fn refuse_launch(&mut self, launch: &LaunchMessage, text: &str) -> Result<(), Ended> {
+    pub fn refuse_launch(&mut self, launch: &LaunchMessage, text: &str) -> Result<(), Ended>
+        ensures { OnOk result (Refuses O.contents (head_in launch.now) text.now self.old self.new) }
+    {
         self.refuse(launch.head(), text)
     }
 
     /// Answers a message before a launch, unless it launches.
-    fn answer_before(&mut self, message: &Value) -> Result<Before, Ended> {
+    fn answer_before(&mut self, message: &Value) -> Result<Before, Ended>
+        ensures told { OnOk result (HearsBefore O.contents (head_of (view message.now)) (view message.now) self.old self.new) }
+        ensures launches { IfOk result (λ before. before ≡ Launches → IsLaunching (view message.now) × (self.new ≡ self.old)) }
+        ensures messages { messages_of self.new ≡ messages_of self.old }
+    {
         let Some(head) = read_head(message) else {
             self.tell_console("a message is refused: NoRequest\n")?;
             return Ok(Before::Goes);
@@ -103,7 +118,11 @@ impl<R: Read, O: Write> Connection<R, O> {
         &mut self,
         head: Head<'_>,
         request: &Request<'_>,
-    ) -> Result<Before, Ended> {
+    ) -> Result<Before, Ended>
+        ensures told { OnOk result (TellsBefore O.contents (head.entry.number, head.entry.command.now) request.now self.old self.new) }
+        ensures launches { IfOk result (λ before. before ≡ Launches → (launch : Launch) × (request.now ≡ variant.Launch launch) × (self.new ≡ self.old)) }
+        ensures messages { messages_of self.new ≡ messages_of self.old }
+    {
         match request {
             Request::Launch(_) => return Ok(Before::Launches),
             Request::Initialize { hears_invalidated } => {

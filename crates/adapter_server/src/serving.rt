@@ -1,5 +1,5 @@
 //! The requests for a program that is launched.
-ghost use Rattle.std.specs.Prelude.{◌≡◌, IfOk, OnOk};
+ghost use Rattle.std.specs.Prelude.{◌≡◌, IfOk, OnOk, codes};
 ghost use Rattle.serde_json.specs.View.{view};
 ghost use Rattle.gang_model.specs.Debugger.Debugger.{Debugger, Setting};
 ghost use Rattle.debug_session.specs.Sessions.{StandsFor};
@@ -7,6 +7,7 @@ ghost use Rattle.adapter_requests.specs.declared.request.Request.TheVariants.{Co
 ghost use Rattle.adapter_session.specs.Done.{DoesRequest};
 ghost use Rattle.adapter_session.specs.Terms.{terms_of};
 ghost use Rattle.adapter_server.specs.Events.{events_at_beginning, events_behind, events_on_entry};
+ghost use Rattle.adapter_server.specs.Hearing.{Hears, HearsAll, HearsLaunch, HearsRestart, Refuses};
 ghost use Rattle.adapter_server.specs.Sending.{Sends};
 ghost use Rattle.adapter_server.specs.Serving.{Answers, Asks, Begins, DoesOne, Follows, HasBegun, MayDo, Serves, ServesAnew, messages_of, run_of, setup_by, setup_of, unread};
 ghost use Rattle.adapter_server.specs.Telling.{Tells, TellsBeginning, TellsOne};
@@ -61,8 +62,10 @@ impl<R: Read, O: Write> Connection<R, O> {
         session: &mut Session<M>,
         files: &F,
     ) -> Result<Served, Ended>
-        ensures { Serves M.stands (F.leads files.now) (setup_of launch.now) (unread R.remaining self.old) (unread R.remaining self.new)
+        ensures done { Serves M.stands (F.leads files.now) (setup_of launch.now) (unread R.remaining self.old) (unread R.remaining self.new)
             (run_of session.old terms.old) (run_of session.new terms.new) }
+        ensures told { OnOk result (HearsLaunch M.stands (F.leads files.now) R.remaining O.contents launch.now (setup_of launch.now) self.old self.new
+            (run_of session.old terms.old) (run_of session.new terms.new)) }
     {
         self.reply(launch.head(), "", &Reply::Done)?;
         self.tell("initialized")?;
@@ -83,8 +86,10 @@ impl<R: Read, O: Write> Connection<R, O> {
         session: &mut Session<M>,
         files: &F,
     ) -> Result<Served, Ended>
-        ensures { ServesAnew M.stands (F.leads files.now) (setup_of launch.now) (unread R.remaining self.old) (unread R.remaining self.new) old.now
+        ensures done { ServesAnew M.stands (F.leads files.now) (setup_of launch.now) (unread R.remaining self.old) (unread R.remaining self.new) old.now
             (run_of session.old terms.old) (run_of session.new terms.new) }
+        ensures told { OnOk result (HearsRestart M.stands (F.leads files.now) R.remaining O.contents (setup_of launch.now) old.now self.old self.new
+            (run_of session.old terms.old) (run_of session.new terms.new)) }
     {
         restore_stops(old, terms, session);
         self.opened.clear();
@@ -101,12 +106,17 @@ impl<R: Read, O: Write> Connection<R, O> {
     /// # Errors
     ///
     /// The writer fails, or out of memory.
-    pub fn refuse_restart(&mut self, text: &str) -> Result<(), Ended> {
+    pub fn refuse_restart(&mut self, text: &str) -> Result<(), Ended>
+        ensures { OnOk result (Refuses O.contents (self.old.restart, codes "restart") text.now self.old self.new) }
+    {
         self.refuse(self.restarting(), text)
     }
 
     /// The request to restart that is not answered yet.
-    fn restarting(&self) -> Head<'static> {
+    fn restarting(&self) -> Head<'static>
+        ensures number { result.number ≡ self.now.restart }
+        ensures command { result.command.now ≡ codes "restart" }
+    {
         Head {
             number: self.restart,
             command: "restart",
@@ -126,8 +136,10 @@ impl<R: Read, O: Write> Connection<R, O> {
         session: &mut Session<M>,
         files: &F,
     ) -> Result<Served, Ended>
-        ensures { Serves M.stands (F.leads files.now) (setup_of launch.now) (unread R.remaining self.old) (unread R.remaining self.new)
+        ensures done { Serves M.stands (F.leads files.now) (setup_of launch.now) (unread R.remaining self.old) (unread R.remaining self.new)
             (run_of session.old terms.old) (run_of session.new terms.new) }
+        ensures told { OnOk result (HearsAll M.stands (F.leads files.now) R.remaining O.contents (setup_of launch.now) self.old self.new
+            (run_of session.old terms.old) (run_of session.new terms.new)) }
     {
         let Some(asked) = launch.launch() else {
             return Err(Ended::Memory);
@@ -154,6 +166,8 @@ impl<R: Read, O: Write> Connection<R, O> {
         files: &F,
     ) -> Result<Turn, Ended>
         ensures done { Answers M.stands (F.leads files.now) (setup_by launch.now) (view message.now) (run_of session.old terms.old) (run_of session.new terms.new) }
+        ensures told { OnOk result (Hears M.stands (F.leads files.now) O.contents (setup_by launch.now) (view message.now) self.old self.new
+            (run_of session.old terms.old) (run_of session.new terms.new)) }
         ensures messages { messages_of self.new ≡ messages_of self.old }
     {
         let Some(head) = read_head(message) else {
@@ -183,7 +197,7 @@ impl<R: Read, O: Write> Connection<R, O> {
         files: &F,
     ) -> Result<Turn, Ended>
         ensures done { Follows M.stands (F.leads files.now) (setup_by launch.now) request.now (run_of session.old terms.old) (run_of session.new terms.new) }
-        ensures told { OnOk result (Tells M.stands (F.leads files.now) O.contents (threads_of launch.now) (setup_by launch.now) request.now self.old self.new
+        ensures told { OnOk result (Tells M.stands (F.leads files.now) O.contents (setup_by launch.now) (head.entry.number, head.entry.command.now) request.now self.old self.new
             (run_of session.old terms.old) (run_of session.new terms.new)) }
         ensures messages { messages_of self.new ≡ messages_of self.old }
     {

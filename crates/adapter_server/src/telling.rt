@@ -1,5 +1,6 @@
 //! Events that are sent.
 ghost use Rattle.std.specs.Prelude.{◌≡◌, ◌∷◌, [], OnOk, map};
+ghost use Rattle.opened_texts.specs.Texts.{texts_of};
 
 use crate::connection::{Connection, Ended};
 use crate::events::Event;
@@ -7,7 +8,7 @@ use std::io::{Read, Write};
 
 impl<R: Read, O: Write> Connection<R, O> {
     ghost use Rattle.adapter_server.specs.Events.{event_view, last_stop};
-    ghost use Rattle.adapter_server.specs.Sending.{Sends, SendsOne, event_data};
+    ghost use Rattle.adapter_server.specs.Sending.{Sends, SendsOne, event_data, left_open};
     ghost use Rattle.adapter_server.specs.Serving.{messages_of};
 
     /// Sends events, one after another.
@@ -25,6 +26,7 @@ impl<R: Read, O: Write> Connection<R, O> {
     fn tell_event(&mut self, event: &Event) -> Result<(), Ended>
         ensures sent { OnOk result (SendsOne O.contents self.old self.new (event_data (event_view event.now))) }
         ensures stopped { OnOk result (self.new.stopped ≡ last_stop self.old.stopped (event_view event.now ∷ [])) }
+        ensures opened { OnOk result (texts_of self.new.opened ≡ left_open (texts_of self.old.opened) (event_view event.now ∷ [])) }
         ensures messages { messages_of self.new ≡ messages_of self.old }
     {
         match event {

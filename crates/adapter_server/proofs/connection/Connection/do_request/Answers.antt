@@ -1,8 +1,10 @@
-use Rattle.std.proofs.Common.{◌∙◌, inl, inr, refl}
+use Rattle.std.proofs.Common.{◌∙◌, ap, inl, inr, refl}
+use Rattle.debug_session.specs.Sessions.{bare}
+use Rattle.opened_texts.specs.Texts.{texts_of}
 use Rattle.adapter_server.specs.Serving.{run_of, setup_by}
 use Rattle.adapter_server.specs.Threads.{threads_of}
 use Rattle.adapter_server.proofs.ServedRequests.{follows_asking, follows_beginning}
-use Rattle.adapter_server.proofs.ToldEvents.{replied_same, sent_same}
+use Rattle.adapter_server.proofs.ToldEvents.{opens_same, replied_same, sent_same}
 use Rattle.adapter_server.proofs.connection.Connection.do_request.Goals as goal
 
 pub returns-in_err-begin-in-ConfigurationDone-clause-done : goal.returns-in_err-begin-in-ConfigurationDone-clause-done
@@ -18,11 +20,9 @@ returns-in-ConfigurationDone-clause-done g c =
 pub returns-in-ConfigurationDone-clause-told : goal.returns-in-ConfigurationDone-clause-told
 returns-in-ConfigurationDone-clause-told g c =
     inr (inr (record {
-      message = _;
       replied = c.reply-2.new.self;
       told = c.tell_of.new.self;
       middle = run_of c.ask.new.session c.ask.new.terms;
-      reply = replied_same g.O.Write.contents c.args.self.now c.reply-2.new.self c.open_answer-told.new.texts _ c.in_ok-reply-3.ensures.sent;
       path = c.in_ok-path.path.now;
       is_path = c.in_ok-path.ensures;
       one = record {
@@ -31,6 +31,10 @@ returns-in-ConfigurationDone-clause-told g c =
         sends = sent_same g.M.RecordedMachine.stands g.O.Write.contents (threads_of c.args.launch.now) c.in_ok-path.path.now c.args.request.now c.reply-2.new.self c.tell_of.new.self
             (run_of c.ask.new.session c.ask.new.terms) c.open_answer-told.result c.in_ok-answered.answered (λ s d. c.open_answer-told.ensures.events (threads_of c.args.launch.now) c.reply-2.new.self.hears_changes s d c.reply-2.new.self.stopped) c.in_ok-tell_of.ensures.told;
       };
+      given = c.open_answer-told.result.reply;
+      opens = λ s d there. opens_same s (bare d) c.args.request.now c.in_ok-answered.answered.reply c.open_answer-told.result.reply (texts_of c.args.self.now.opened) (texts_of c.open_answer-told.new.texts) (texts_of c.reply-2.new.self.opened)
+          (ap texts_of c.reply-2.ensures.opened) (c.open_answer-told.ensures.reply s d there);
+      reply = replied_same g.O.Write.contents c.args.self.now c.reply-2.new.self c.open_answer-told.new.texts _ c.in_ok-reply-3.ensures.sent;
       begins = inr (c.in-ConfigurationDone.is, c.in_ok-begin-in-ConfigurationDone.ensures.told);
     }))
 
@@ -58,11 +62,9 @@ returns-in-Disconnect-clause-done g c =
 pub returns-in-Disconnect-clause-told : goal.returns-in-Disconnect-clause-told
 returns-in-Disconnect-clause-told g c =
     inr (inr (record {
-      message = _;
       replied = c.reply-2.new.self;
       told = c.tell_of.new.self;
       middle = run_of c.ask.new.session c.ask.new.terms;
-      reply = replied_same g.O.Write.contents c.args.self.now c.reply-2.new.self c.open_answer-told.new.texts _ c.in_ok-reply-3.ensures.sent;
       path = c.in_ok-path.path.now;
       is_path = c.in_ok-path.ensures;
       one = record {
@@ -71,6 +73,10 @@ returns-in-Disconnect-clause-told g c =
         sends = sent_same g.M.RecordedMachine.stands g.O.Write.contents (threads_of c.args.launch.now) c.in_ok-path.path.now c.args.request.now c.reply-2.new.self c.tell_of.new.self
             (run_of c.ask.new.session c.ask.new.terms) c.open_answer-told.result c.in_ok-answered.answered (λ s d. c.open_answer-told.ensures.events (threads_of c.args.launch.now) c.reply-2.new.self.hears_changes s d c.reply-2.new.self.stopped) c.in_ok-tell_of.ensures.told;
       };
+      given = c.open_answer-told.result.reply;
+      opens = λ s d there. opens_same s (bare d) c.args.request.now c.in_ok-answered.answered.reply c.open_answer-told.result.reply (texts_of c.args.self.now.opened) (texts_of c.open_answer-told.new.texts) (texts_of c.reply-2.new.self.opened)
+          (ap texts_of c.reply-2.ensures.opened) (c.open_answer-told.ensures.reply s d there);
+      reply = replied_same g.O.Write.contents c.args.self.now c.reply-2.new.self c.open_answer-told.new.texts _ c.in_ok-reply-3.ensures.sent;
       begins = inl (λ is. cc, refl, refl);
     }))
 
@@ -84,11 +90,9 @@ returns-clause-done g c =
 pub returns-clause-told : goal.returns-clause-told
 returns-clause-told g c =
     inr (inr (record {
-      message = _;
       replied = c.reply-2.new.self;
       told = c.tell_of.new.self;
       middle = run_of c.ask.new.session c.ask.new.terms;
-      reply = replied_same g.O.Write.contents c.args.self.now c.reply-2.new.self c.open_answer-told.new.texts _ c.in_ok-reply-3.ensures.sent;
       path = c.in_ok-path.path.now;
       is_path = c.in_ok-path.ensures;
       one = record {
@@ -97,6 +101,10 @@ returns-clause-told g c =
         sends = sent_same g.M.RecordedMachine.stands g.O.Write.contents (threads_of c.args.launch.now) c.in_ok-path.path.now c.args.request.now c.reply-2.new.self c.tell_of.new.self
             (run_of c.ask.new.session c.ask.new.terms) c.open_answer-told.result c.in_ok-answered.answered (λ s d. c.open_answer-told.ensures.events (threads_of c.args.launch.now) c.reply-2.new.self.hears_changes s d c.reply-2.new.self.stopped) c.in_ok-tell_of.ensures.told;
       };
+      given = c.open_answer-told.result.reply;
+      opens = λ s d there. opens_same s (bare d) c.args.request.now c.in_ok-answered.answered.reply c.open_answer-told.result.reply (texts_of c.args.self.now.opened) (texts_of c.open_answer-told.new.texts) (texts_of c.reply-2.new.self.opened)
+          (ap texts_of c.reply-2.ensures.opened) (c.open_answer-told.ensures.reply s d there);
+      reply = replied_same g.O.Write.contents c.args.self.now c.reply-2.new.self c.open_answer-told.new.texts _ c.in_ok-reply-3.ensures.sent;
       begins = inl (c.in_default-request.not-ConfigurationDone, refl, refl);
     }))
 
