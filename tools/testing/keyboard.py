@@ -3,14 +3,13 @@
 import fcntl
 import os
 import pathlib
-import select
 import signal
 import subprocess
 import tempfile
 import termios
 import time
 
-from .terminals import set_quiet
+from .terminals import is_ready, set_quiet
 from .tried import Result, shown
 
 CTRL_C, CTRL_D = b"\x03", b"\x04"
@@ -47,7 +46,7 @@ class Terminal:
 
     def read(self, seconds):
         """Reads what it shows, for so long at most. Linux tells the end of a terminal by a fault."""
-        if not select.select([self.ours], [], [], seconds)[0]:
+        if not is_ready(self.ours, seconds):
             return False
         try:
             piece = os.read(self.ours, 65536)

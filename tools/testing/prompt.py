@@ -3,13 +3,13 @@ read after `quit` beyond what was read at once; and the answers to what was read
 
 import os
 import pathlib
-import select
 import socket
 import subprocess
 import tempfile
 import tty
 
 from . import kinds, program
+from .terminals import is_ready
 from .tried import Result
 
 WAITED = 60  # seconds for an answer, or for the end
@@ -32,8 +32,7 @@ def come(output, size):
     """So many bytes that come, or those that have come by then."""
     found = b""
     while len(found) < size:
-        ready, _, _ = select.select([output], [], [], WAITED)
-        piece = os.read(output, size - len(found)) if ready else b""
+        piece = os.read(output, size - len(found)) if is_ready(output, WAITED) else b""
         if not piece:
             break
         found += piece
@@ -42,7 +41,7 @@ def come(output, size):
 
 def is_silent(output):
     """Whether nothing more has come."""
-    return not select.select([output], [], [], 0)[0]
+    return not is_ready(output, 0)
 
 
 def begun(built, folder, words, **streams):

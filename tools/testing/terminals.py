@@ -5,6 +5,7 @@ where these were typed ahead of them."""
 import os
 import pathlib
 import re
+import select
 import subprocess
 import tempfile
 import termios
@@ -177,6 +178,13 @@ def typed(built, source, lines, environment, is_both=False, is_raw=False):
             text = all_of(ours)
     os.close(ours)
     return text
+
+
+def is_ready(stream, seconds):
+    """Whether something is to be read within some seconds, or the end; of a file of whatever number, which `select` takes below 1,024 alone."""
+    waiting = select.poll()
+    waiting.register(stream, select.POLLIN)
+    return bool(waiting.poll(seconds * 1000))
 
 
 def set_quiet(terminal):
