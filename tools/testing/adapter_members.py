@@ -1,5 +1,6 @@
 """What the Debug Adapter Protocol says of the members of each reply and event, of their types and of their values."""
 
+import json
 import re
 
 TEXT, NUMBER, TRUTH, LIST, MEMBERS = str, int, bool, list, dict
@@ -95,6 +96,12 @@ WAITS = " (waits)"
 
 class Wrong(Exception):
     pass
+
+
+def framed(message):
+    """A message behind its head."""
+    text = json.dumps(message).encode()
+    return b"Content-Length: %d\r\n\r\n%s" % (len(text), text)
 
 
 def need(holds, why):
