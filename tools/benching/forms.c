@@ -1,7 +1,8 @@
 /* The machine's model in plain C: a gang of LANES lanes, whose words are those of a machine that keeps the old word of each change, so that
-   steps can be taken back. `forms FORM STEPS HISTORY` runs the program of a form for so many steps, and back as far as the history goes. It
-   writes the nanoseconds of a step forward and of one back, how many steps there were of each, a sum that hangs on all of them, and whether
-   there was a fault. It is compiled with -DLANES=4, 8 or 16. What it times is a lower bound: nothing of it is checked, and nothing is shown. */
+   steps can be taken back. `forms FORM FILLING STEPS TIMES HISTORY` runs the program of a form for so many steps, so that its record is full,
+   then so many times STEPS on, and as often STEPS back and on again. It writes the nanoseconds of a step forward and of one back, each by the
+   least of these times, and a sum that hangs on all steps. It is compiled with -DLANES=4, 8 or 16. Nothing of it is checked, and nothing is
+   shown. */
 #include <stdint.h>
 #include <stdio.h>
 #include <stdlib.h>
@@ -512,23 +513,28 @@ static double now(void) {
     return time.tv_sec + time.tv_nsec * 1e-9;
 }
 
-/* Takes as many steps as there are, up to so many, and looks at each place. Returns how many. */
-static long taken(int (*step)(void), long most, uint32_t *sum, double *seconds) {
-    long count = 0;
+static uint32_t sum;
+static int is_short;
+
+/* The seconds of so many steps, at each of which the place is looked at. */
+static double seconds(int (*step)(void), long most) {
     double start = now();
+    long count = 0;
     while (count < most && step()) {
         Place at;
         count++;
-        *sum += next(&at) ? at.number : 0;
+        sum += next(&at) ? at.number : 0;
     }
-    *seconds = now() - start;
-    return count;
+    if (count < most) is_short = 1;
+    return now() - start;
 }
 
+static double lesser(double one, double other) { return one < other ? one : other; }
+
 int main(int count, char **given) {
-    if (count != 4) return 2;
-    long most = atol(given[2]);
-    marks_most = strtoull(given[3], 0, 10);
+    if (count != 6) return 2;
+    long filling = atol(given[2]), most = atol(given[3]), times = atol(given[4]);
+    marks_most = strtoull(given[5], 0, 10);
     changes_most = marks_most * (9 * LANES + 16);
     changes = malloc(changes_most * sizeof *changes);
     marks = calloc(marks_most, sizeof *marks);
@@ -540,9 +546,13 @@ int main(int count, char **given) {
     functions = all;
     words[0] = 1;
     words[frame_at(0) + CALLERS] = (1u << LANES) - 1;
-    uint32_t sum = 0;
-    double forward, back;
-    long on = taken(step_on, most, &sum, &forward), returned = taken(step_back, most, &sum, &back);
-    printf("%.1f %.1f %ld %ld %u %d\n", forward / on * 1e9, back / returned * 1e9, on, returned, sum, fault);
-    return 0;
+    seconds(step_on, filling);
+    double forward = 1e9, back = 1e9;
+    for (long time = 0; time < times; time++) forward = lesser(forward, seconds(step_on, most));
+    for (long time = 0; time < times; time++) {
+        back = lesser(back, seconds(step_back, most));
+        seconds(step_on, most);
+    }
+    printf("%.2f %.2f %u\n", forward / most * 1e9, back / most * 1e9, sum);
+    return fault || is_short ? 4 : 0;
 }

@@ -1,7 +1,9 @@
 """A step of each form of the language beside the same machine in plain C: how many times as long the program takes, forward and back.
 
-The C program (forms.c) has the machine's words, lanes and record, and does nothing else. Both step through the same source in one run of these
-measurements, one after the other; each time is the least of some rounds, in seconds of the processor.
+The C program (forms.c) has the machine's words, lanes and record, and does nothing else. Both step through the same source, in runs of theirs that
+alternate. Each has first filled its record, so that what it writes to is its own memory; then it steps on some times, and back and on again
+some times, and each time is the least of all these, in seconds of the processor. Until its record is full the program is given new memory by the
+system, step by step: what a step takes then is told of some forms.
 """
 
 import pathlib
@@ -9,11 +11,14 @@ import shutil
 import subprocess
 import tempfile
 
-from .timed import NotRun, spent
+from .desks import TIMES, apart, least, scripted
+from .timed import NotRun
 
 SOURCE = pathlib.Path(__file__).with_name("forms.c")
 WIDTHS = (4, 8, 16)
-HISTORY, STEPS, STEPS_OF_C, ROUNDS = 65_536, 60_000, 200_000, 3
+HISTORY, STEPS, ROUNDS = 65_536, 60_000, 3
+FILLING = 400_000  # steps, behind which no form's record takes new memory
+GROWING = ("loop", "foreach")
 MANY = 100_000_000
 ARRAY = "uniform int a[4096];\n"
 PLACE = "(i * 5 + programIndex * 3) & 4095"
@@ -68,42 +73,52 @@ def compiled(folder):
 
 
 def of_c(program, form):
-    """The seconds of a step forward and of one back, in C."""
-    ended = subprocess.run([program, form, str(STEPS_OF_C), str(HISTORY)], capture_output=True, text=True)
+    """The seconds of STEPS steps forward and of as many back, in C."""
+    words = [program, form, *map(str, (STEPS + FILLING, STEPS, TIMES, HISTORY))]
+    ended = subprocess.run(words, capture_output=True, text=True)
     if ended.returncode:
         raise NotRun(f"forms.c ends with status {ended.returncode}")
-    forward, back, _, _, _, fault = ended.stdout.split()
-    if int(fault):
-        raise NotRun("forms.c meets a fault")
-    return float(forward) / 1e9, float(back) / 1e9
+    forward, back, _ = ended.stdout.split()
+    return float(forward) * STEPS / 1e9, float(back) * STEPS / 1e9
 
 
-def once(program, source, width, lines):
-    """The processor's seconds of one run of the program with these lines."""
-    before = spent()
-    words = [program, "--width", str(width), "--history", str(HISTORY)]
-    ended = subprocess.run(words, input=f"{source}%%\n{lines}".encode(), capture_output=True, env={})
-    if ended.returncode or b"fault" in ended.stdout:
-        raise NotRun(f"status {ended.returncode} {(ended.stdout + ended.stderr).decode(errors='replace')[-200:].strip()}")
-    return spent() - before
+def stepped(desk, command, steps=STEPS):
+    """The seconds of a command that takes so many steps, all of them."""
+    before = desk.used()
+    told = desk.done([f"{command} {steps}"])
+    if not told.startswith(b"at "):
+        raise NotRun(f"{command} {steps} comes to {told.split(desk.mark[1])[0].decode().strip()}")
+    return desk.used() - before
 
 
-def of_program(program, source, width):
-    """The seconds of a run without steps, of one with them, and of one that takes them back."""
-    forward = f"step {STEPS}\n"
-    return [once(program, source, width, lines) for lines in ("", forward, forward + f"reverse-step {STEPS}\n")]
+def of_program(program, folder, form, width):
+    """The seconds of the first STEPS steps, of as many forward in a full record, of as many back, and of a line that does nothing."""
+    with scripted(program, folder, FORMS[form], HISTORY, width) as desk:
+        first = stepped(desk, "step")
+        stepped(desk, "step", FILLING)
+        forward = [(stepped(desk, "step"), desk.seconds([])) for _ in range(TIMES)]
+        back = [(stepped(desk, "reverse-step"), stepped(desk, "step")) for _ in range(TIMES)]
+    on, nothing = least(forward)
+    returned, _ = least(back)
+    return first, on, returned, nothing
 
 
-def ratio(program, plain, form, width):
-    """How many times as long as in C the program takes for a step forward, and for one back."""
-    rounds = [(*of_c(plain, form), *of_program(program, FORMS[form], width)) for _ in range(ROUNDS)]
-    forward, back, none, there, both = (min(it) for it in zip(*rounds))
-    return (there - none) / STEPS / forward, (both - there) / STEPS / back
+def beside(taken, nothing, of_c):
+    """How many times as long as in C the program's steps take; None where they are too few to tell."""
+    seconds = apart(taken, nothing)
+    return None if seconds is None else seconds / of_c
+
+
+def ratios(program, plain, folder, form, width):
+    """How many times as long as in C the program takes for a step forward, for one back, and for one forward while its record grows."""
+    rounds = [(*of_c(plain, form), *of_program(program, folder, form, width)) for _ in range(ROUNDS)]
+    forward, back, first, on, returned, nothing = least(rounds)
+    return beside(on, nothing, forward), beside(returned, nothing, back), beside(first, nothing, forward)
 
 
 def told(program):
-    """For each form its name and the two ratios at each width."""
+    """For each form its name and the three ratios at each width."""
     with tempfile.TemporaryDirectory(prefix="bench-forms-") as folder:
         plain = compiled(folder)
         for form in FORMS:
-            yield form, [ratio(program, plain[width], form, width) for width in WIDTHS]
+            yield form, [ratios(program, plain[width], folder, form, width) for width in WIDTHS]

@@ -1,10 +1,8 @@
 """The time of going back over a run that is longer than the machine's own record, at the prompt of `rinddecade debug`, beside what it may be.
 
-A program is given its lines one after another, and the processor's seconds that it takes for some of them are read off the system before and
-behind them. Each time is the least of some rounds. Each run is looked at for what it is to come to.
+Each time is the least of some rounds. Each run is looked at for what it is to come to.
 """
 
-import contextlib
 import os
 import pathlib
 import subprocess
@@ -13,6 +11,7 @@ import tempfile
 from testing.whole_runs import FAULT, SPOILS, SPOILT
 
 from . import counted, works
+from .desks import MARK, MARK_OF_SCRIPTS, begun, least
 from .timed import NotRun
 
 ROUNDS = 3
@@ -43,8 +42,6 @@ OF_VARIABLE, OF_EXPRESSION = "watch still", "watch still * 3 + programIndex"
 SPOILT_NAME, BACK_TO_CAUSE = "spoilt.ispc", "last divisor"
 (_, FAULT_STEP), (_, CAUSE_STEP) = FAULT, SPOILS
 LIBRARY = pathlib.Path(__file__).with_name("allocations.c")
-# What is typed behind the measured lines, and how it is answered: by the prompt, and by the program for scripts.
-MARK, MARK_OF_SCRIPTS = ("echo ----", b"----\n"), ("----", b"C1 BadCommand\n")
 
 
 class Figure:
@@ -58,70 +55,12 @@ class Figure:
         return f"{self.value:>17,{self.form}} {self.what}{aim}"
 
 
-class Desk:
-    """A program that runs, and is given lines."""
-
-    def __init__(self, words, folder, mark=MARK, environment=None):
-        self.mark, self.folder = mark, folder
-        streams = {"stdin": subprocess.PIPE, "stdout": subprocess.PIPE, "stderr": subprocess.DEVNULL}
-        self.process = subprocess.Popen([str(it) for it in words], cwd=folder, env=environment or {}, **streams)
-        self.done([])
-
-    def done(self, lines, wanted=b""):
-        """What is answered to these lines, which has a text."""
-        self.process.stdin.write("".join(f"{it}\n" for it in (*lines, self.mark[0])).encode())
-        self.process.stdin.flush()
-        told = []
-        while not told or told[-1] != self.mark[1]:
-            told.append(self.process.stdout.readline())
-            if not told[-1]:
-                raise NotRun(f"it ends with status {self.process.wait()}")
-        if wanted not in b"".join(told):
-            raise NotRun(f"it does not come to {wanted.decode()}")
-        return b"".join(told)
-
-    def used(self):
-        """The seconds of the processor that it has taken up to now."""
-        return int(pathlib.Path(f"/proc/{self.process.pid}/schedstat").read_text().split()[0]) / 1e9
-
-    def used_by_itself(self):
-        """Those of them that were not the system's."""
-        fields = pathlib.Path(f"/proc/{self.process.pid}/stat").read_text().rsplit(")", 1)[1].split()
-        return int(fields[11]) / os.sysconf("SC_CLK_TCK")
-
-    def seconds(self, lines, wanted=b""):
-        """The seconds for these lines."""
-        before = self.used()
-        self.done(lines, wanted)
-        return self.used() - before
-
-    def end(self):
-        self.process.stdin.close()
-        self.process.stdout.read()
-        self.process.wait()
-
-
-@contextlib.contextmanager
-def begun(words, folder, **how):
-    """A program that runs as long as it is needed."""
-    desk = Desk(words, folder, **how)
-    try:
-        yield desk
-    finally:
-        desk.end()
-
-
 def debugged(program, name=NAME):
     return [program, "debug", name, "--steps", "10000000"]
 
 
 def at_step(number):
     return f"step {number}, lanes".encode()
-
-
-def least(rounds):
-    """The least of each of several times, of some rounds."""
-    return [min(it) for it in zip(*rounds)]
 
 
 def way_back(program, folder):

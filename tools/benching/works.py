@@ -17,6 +17,18 @@ class Work:
         return Work(self.text, self.first, self.measured, self.count, self.history, width)
 
 
+class WayBack:
+    """A source, the commands to where a way back begins, those of the way, how many steps it has, and how the places of both ends are told."""
+
+    def __init__(self, text, there, measured, count, ends, width=4):
+        self.text, self.there, self.measured, self.count = text, there, measured, count
+        self.from_where, self.to_where = ends
+        self.width, self.history = width, 65_536
+
+    def at(self, width):
+        return WayBack(self.text, self.there, self.measured, self.count, (self.from_where, self.to_where), width)
+
+
 def straight(variables):
     """A function that declares so many variables and then does the statements, with a variable of the file that it leaves alone."""
     declared = "".join(f"int v{number} = {number};\n" for number in range(variables))
@@ -33,6 +45,17 @@ def loop(turns=TURNS):
 def steps_of_loop(turns):
     """How many steps such a function has up to its closing brace."""
     return 2 + 5 * turns + 2
+
+
+LATE_LINE, FIRST_LINE = 11, 3  # of such a function, and of the same in C: the change behind the turns, and the first statement
+STEPS_TO_LATE_LINE = steps_of_loop(LATE_TURNS) - 1
+
+
+def way_back(stops=()):
+    """The way from the late line back to the first one, with stops that do not end it."""
+    there = ["delete", f"break {LATE_LINE}", "continue", "delete", *stops]
+    ends = f": at {LATE_LINE}:1 go".encode(), f"history end: at {FIRST_LINE}:1 go".encode()
+    return WayBack(loop(LATE_TURNS), there, ["reverse-continue"], STEPS_TO_LATE_LINE, ends)
 
 
 def touching(turns, others=0):
@@ -79,6 +102,11 @@ def forward(history):
 def continued(stops, rounds=2):
     moves = ["continue", "reverse-continue"] * rounds
     return Work(straight(4), stops, moves, 2 * (STATEMENTS + 1) * rounds)
+
+
+def single_steps(count=1_000):
+    """As many commands, of one step each."""
+    return Work(loop(180_000), [], ["step"] * count, count)
 
 
 def printed(variables):
