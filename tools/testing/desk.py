@@ -69,7 +69,7 @@ def told(name, words, errors, data):
 
 
 def runs():
-    return helps() + wrong_words() + refused_programs() + refused_inputs() + marks() + unread_files() + typed_lines() + pages() + histories()
+    return helps() + wrong_words() + sources_for_verbs() + refused_programs() + refused_inputs() + marks() + unread_files() + typed_lines() + pages() + histories()
 
 
 def helps():
@@ -105,6 +105,14 @@ def wrong_words():
     told = begins_with(b"error: ")
     found = [Run(f"wrong: {' '.join(words)}", b"", words, b"", told, 2, FILES) for words in wrong]
     return found + [Run(f"wrong: --watch {name}", b"", ["picture", "first.ispc", "--watch", name], b"", b"error: " + why + b"\n", 2, FILES) for name, why in UNWATCHED.items()]
+
+
+def sources_for_verbs():
+    """A source in place of a verb, with how it is debugged; and a word that is no source's, with nothing more than what is wrong."""
+    hint = lambda path: has_words(b"error: unrecognized subcommand", b"to debug a program: rinddecade debug %s\n" % path)
+    ends = lambda told: [] if told.endswith(b"try '--help'.\n") else ["something follows"]
+    rows = {"first.ispc": hint(b"first.ispc"), "a/b c.ispc": hint(b"a/b c.ispc"), "first.c": ends, "first.ispc.txt": ends, "step": ends}
+    return [Run(f"in place of a verb: {word}", b"", [word], b"", told, 2, FILES) for word, told in rows.items()]
 
 
 def refused_programs():

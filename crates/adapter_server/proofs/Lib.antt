@@ -1,4 +1,5 @@
 mod ConsoleLines
+mod Ends
 mod HeardMessages
 mod Launches
 mod OpenReferences

@@ -26,6 +26,10 @@ pub on_ok_then : {T E : Type 0} (result : Result T E) (P Q : Type 0) → OnOk re
 on_ok_then (Ok x) P Q p f = f p
 on_ok_then (Err e) P Q p f = tt
 
+pub if_ok_then : {T E : Type 0} (result : Result T E) (P Q : T → Type 0) → IfOk result P → ((x : T) → P x → Q x) → IfOk result Q
+if_ok_then (Ok x) P Q p f = f x p
+if_ok_then (Err e) P Q p f = tt
+
 module _ {M : Type 0} (stands : M → Setting → Debugger → Type 0) where
   same_run : (old new : Session M) (terms after : GivenTerms) → new ≡ old → after ≡ terms → run_of new after ≡ run_of old terms
   same_run old new terms after same stay = ap (λ session. run_of session after) same ∙ ap (λ t. run_of old t) stay

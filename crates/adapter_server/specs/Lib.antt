@@ -1,4 +1,5 @@
 pub mod Effects
+pub mod Ending
 pub mod Events
 pub mod Hearing
 pub mod Opening

@@ -1,5 +1,5 @@
 //! A connection to an editor: the messages that it sends, and what it is told.
-ghost use Rattle.std.specs.Prelude.{◌≡◌, MatchResult, OnOk, [], ◌∷◌, codes, false};
+ghost use Rattle.std.specs.Prelude.{◌≡◌, IfErr, MatchResult, OnOk, [], ◌∷◌, codes, false};
 ghost use Rattle.std.specs.Io.KnownBytes.{Appends};
 ghost use Rattle.serde_json.specs.View.{view};
 ghost use Rattle.opened_texts.specs.Texts.{texts_of};
@@ -31,8 +31,42 @@ pub enum Ended {
 }
 
 impl From<AllocError> for Ended {
+    ghost use Rattle.adapter_server.specs.declared.connection.Ended.TheVariants.{Memory};
+
+    ghost from_gives = { λ _ ended. ended ≡ Memory };
+
     fn from(_: AllocError) -> Self {
         Ended::Memory
+    }
+}
+
+/// Why a message was not sent.
+#[derive(Clone, Copy, Debug, PartialEq, Eq)]
+pub(crate) enum SendFault {
+    Write,
+    Memory,
+}
+
+impl From<AllocError> for SendFault {
+    ghost use Rattle.adapter_server.specs.declared.connection.SendFault.TheVariants.{Memory};
+
+    ghost from_gives = { λ _ fault. fault ≡ Memory };
+
+    fn from(_: AllocError) -> Self {
+        SendFault::Memory
+    }
+}
+
+impl From<SendFault> for Ended {
+    ghost use Rattle.adapter_server.specs.Ending.{ended_by};
+
+    ghost from_gives = { λ fault ended. ended ≡ ended_by fault };
+
+    fn from(fault: SendFault) -> Self {
+        match fault {
+            SendFault::Write => Ended::WriteFault,
+            SendFault::Memory => Ended::Memory,
+        }
     }
 }
 
@@ -60,6 +94,7 @@ impl<R: Read, O: Write> Connection<R, O> {
     ghost use Rattle.adapter_messages.specs.Messages.{event, failure};
     ghost use Rattle.adapter_messages.specs.Replies.{change_body, message_of, output_body, stop_body};
     ghost use Rattle.adapter_server.specs.Sending.{SaysLines, Sends, SendsOne, given, message_bytes, number_behind};
+    ghost use Rattle.adapter_server.specs.Ending.{IsEndOf};
     ghost use Rattle.adapter_server.specs.Events.{Says};
     ghost use Rattle.adapter_server.specs.Serving.{LetsGo, Reads, ReadsJson, messages_of, unread};
     ghost use Rattle.adapter_server.specs.Telling.{SendsReply, SendsText};
@@ -86,6 +121,7 @@ impl<R: Read, O: Write> Connection<R, O> {
         ensures read { MatchResult result
             (λ value. ReadsJson (unread R.remaining self.old) (unread R.remaining self.new) (view value))
             (λ ended. LetsGo (unread R.remaining self.old) (unread R.remaining self.new)) }
+        ensures ends { IfErr result (IsEndOf R.remaining self.new) }
         ensures said { OnOk result (SaysLines O.contents self.old self.new) }
     {
         for _ in 0..u64::MAX {
@@ -95,16 +131,16 @@ impl<R: Read, O: Write> Connection<R, O> {
                 Err(fault) => self.refuse_text(&fault)?,
             }
         }
-        Err(Ended::EndOfInput)
+        Err(Ended::ReadFault)
     }
 
     /// Tells that a message is no JSON.
-    fn refuse_text(&mut self, fault: &JsonError) -> Result<(), Ended>
+    fn refuse_text(&mut self, fault: &JsonError) -> Result<(), SendFault>
         ensures said { OnOk result (SaysLines O.contents self.old self.new) }
         ensures messages { messages_of self.new ≡ messages_of self.old }
     {
         if fault.is_memory() {
-            return Err(Ended::Memory);
+            return Err(SendFault::Memory);
         }
         self.tell_console("a message is refused: NoJson\n")
     }
@@ -115,6 +151,7 @@ impl<R: Read, O: Write> Connection<R, O> {
         ensures read { MatchResult result
             (λ message. Reads (unread R.remaining self.old) (unread R.remaining self.new) message.items)
             (λ ended. LetsGo (unread R.remaining self.old) (unread R.remaining self.new)) }
+        ensures ends { IfErr result (IsEndOf R.remaining self.new) }
         ensures said { OnOk result (SaysLines O.contents self.old self.new) }
     {
         for _ in 0..u64::MAX {
@@ -130,11 +167,11 @@ impl<R: Read, O: Write> Connection<R, O> {
                 Err(FrameFault::Head(fault)) => self.refuse_head(fault)?,
             }
         }
-        Err(Ended::EndOfInput)
+        Err(Ended::ReadFault)
     }
 
     /// Tells why the head of a frame is refused.
-    fn refuse_head(&mut self, fault: HeadFault) -> Result<(), Ended>
+    fn refuse_head(&mut self, fault: HeadFault) -> Result<(), SendFault>
         ensures said { OnOk result (SaysLines O.contents self.old self.new) }
         ensures messages { messages_of self.new ≡ messages_of self.old }
     {
@@ -148,7 +185,7 @@ impl<R: Read, O: Write> Connection<R, O> {
         head: Head<'_>,
         program: &str,
         reply: &Reply,
-    ) -> Result<(), Ended>
+    ) -> Result<(), SendFault>
         ensures sent { OnOk result (SendsReply O.contents self.old self.new (λ number. message_of number head.entry.number head.entry.command.now program.now reply.now)) }
         ensures opened { self.new.opened ≡ self.old.opened }
         ensures messages { messages_of self.new ≡ messages_of self.old }
@@ -159,7 +196,7 @@ impl<R: Read, O: Write> Connection<R, O> {
     }
 
     /// Refuses a request.
-    pub(crate) fn refuse(&mut self, head: Head<'_>, text: &str) -> Result<(), Ended>
+    pub(crate) fn refuse(&mut self, head: Head<'_>, text: &str) -> Result<(), SendFault>
         ensures sent { OnOk result (SendsReply O.contents self.old self.new (λ number. failure number head.entry.number head.entry.command.now text.now)) }
         ensures opened { self.new.opened ≡ self.old.opened }
         ensures messages { messages_of self.new ≡ messages_of self.old }
@@ -170,7 +207,7 @@ impl<R: Read, O: Write> Connection<R, O> {
     }
 
     /// Tells of an event that has nothing to tell but its name.
-    pub(crate) fn tell(&mut self, name: &str) -> Result<(), Ended>
+    pub(crate) fn tell(&mut self, name: &str) -> Result<(), SendFault>
         ensures sent { OnOk result (SendsOne O.contents self.old self.new (λ number. event number name.now (object no_members))) }
         ensures stopped { self.new.stopped ≡ self.old.stopped }
         ensures opened { self.new.opened ≡ self.old.opened }
@@ -186,7 +223,7 @@ impl<R: Read, O: Write> Connection<R, O> {
         reason: StopReason,
         thread: u64,
         text: &str,
-    ) -> Result<(), Ended>
+    ) -> Result<(), SendFault>
         ensures sent { OnOk result (SendsOne O.contents self.old self.new (λ number. event number (codes "stopped") (stop_body reason thread text.now))) }
         ensures stopped { OnOk result (self.new.stopped ≡ reason) }
         ensures opened { OnOk result (texts_of self.new.opened ≡ []) }
@@ -200,7 +237,7 @@ impl<R: Read, O: Write> Connection<R, O> {
     }
 
     /// Tells that values have changed though the program stands still.
-    pub(crate) fn tell_change(&mut self) -> Result<(), Ended>
+    pub(crate) fn tell_change(&mut self) -> Result<(), SendFault>
         ensures sent { OnOk result (SendsOne O.contents self.old self.new (λ number. event number (codes "invalidated") change_body)) }
         ensures stopped { self.new.stopped ≡ self.old.stopped }
         ensures opened { self.new.opened ≡ self.old.opened }
@@ -211,7 +248,7 @@ impl<R: Read, O: Write> Connection<R, O> {
     }
 
     /// Puts a text on the editor's console.
-    pub(crate) fn tell_console(&mut self, text: &str) -> Result<(), Ended>
+    pub(crate) fn tell_console(&mut self, text: &str) -> Result<(), SendFault>
         ensures sent { OnOk result (SendsOne O.contents self.old self.new (λ number. event number (codes "output") (output_body text.now))) }
         ensures said { OnOk result (Sends O.contents self.old self.new (Says text.now ∷ [])) }
         ensures stopped { self.new.stopped ≡ self.old.stopped }
@@ -222,7 +259,7 @@ impl<R: Read, O: Write> Connection<R, O> {
         self.tell_with("output", body)
     }
 
-    fn tell_with(&mut self, name: &str, body: Value) -> Result<(), Ended>
+    fn tell_with(&mut self, name: &str, body: Value) -> Result<(), SendFault>
         ensures sent { has_float (view body) ≡ false → OnOk result (SendsOne O.contents self.old self.new (λ number. event number name.now (view body))) }
         ensures stopped { self.new.stopped ≡ self.old.stopped }
         ensures opened { self.new.opened ≡ self.old.opened }
@@ -244,7 +281,7 @@ impl<R: Read, O: Write> Connection<R, O> {
         number
     }
 
-    fn send(&mut self, message: &Value) -> Result<(), Ended>
+    fn send(&mut self, message: &Value) -> Result<(), SendFault>
         ensures sent { has_float (view message.now) ≡ false
             → OnOk result (Appends (given O.contents self.old) (given O.contents self.new) (message_bytes (view message.now))) }
         ensures framed { OnOk result (SendsText O.contents self.old self.new (view message.now)) }
@@ -254,8 +291,8 @@ impl<R: Read, O: Write> Connection<R, O> {
         let text = message.to_string(self.alloc)?;
         match write_frame(self.alloc, &mut self.writer, text.as_bytes()) {
             Ok(()) => Ok(()),
-            Err(fault) if fault.kind() == io::ErrorKind::OutOfMemory => Err(Ended::Memory),
-            Err(_) => Err(Ended::WriteFault),
+            Err(fault) if fault.kind() == io::ErrorKind::OutOfMemory => Err(SendFault::Memory),
+            Err(_) => Err(SendFault::Write),
         }
     }
 }

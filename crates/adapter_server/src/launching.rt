@@ -1,14 +1,15 @@
 //! What comes before a launch.
-ghost use Rattle.std.specs.Prelude.{◌≡◌, IfOk, IfSome, OnOk};
+ghost use Rattle.std.specs.Prelude.{◌≡◌, IfErr, IfOk, IfSome, OnOk};
 ghost use Rattle.serde_json.specs.View.{view};
 ghost use Rattle.adapter_requests.specs.declared.request.Launch.{Launch};
 ghost use Rattle.adapter_requests.specs.declared.request.Request.TheVariants as variant;
 ghost use Rattle.adapter_messages.specs.Arguments.{IsLaunch, head_of};
 ghost use Rattle.adapter_server.specs.declared.launching.Before.TheVariants.{Launches};
-ghost use Rattle.adapter_server.specs.Hearing.{AwaitsLaunch, HearsBefore, IsLaunching, Refuses, TellsBefore, head_in};
+ghost use Rattle.adapter_server.specs.Ending.{turn_before};
+ghost use Rattle.adapter_server.specs.Hearing.{AwaitsLaunch, EndsBefore, HearsBefore, IsLaunching, Refuses, TellsBefore, head_in};
 ghost use Rattle.adapter_server.specs.Serving.{messages_of, path_of, setup_by, setup_of};
 
-use crate::connection::{Connection, Ended};
+use crate::connection::{Connection, Ended, SendFault};
 use adapter_messages::{Head, read_head, read_request};
 use adapter_requests::{Launch, Reply, Request};
 use serde_json::Value;
@@ -66,7 +67,8 @@ impl<R: Read, O: Write> Connection<R, O> {
     ///
     /// How the connection ended before a launch came.
     pub fn await_launch(&mut self) -> Result<LaunchMessage, Ended>
-        ensures { IfOk result (λ launch. AwaitsLaunch R.remaining O.contents launch self.old self.new) }
+        ensures launch { IfOk result (λ launch. AwaitsLaunch R.remaining O.contents launch self.old self.new) }
+        ensures ends { IfErr result (EndsBefore R.remaining O.contents self.old self.new) }
     {
         for _ in 0..u64::MAX {
             let message = self.next_value()?;
@@ -79,7 +81,7 @@ impl<R: Read, O: Write> Connection<R, O> {
                 }
             }
         }
-        Err(Ended::EndOfInput)
+        Err(Ended::ReadFault)
     }
 
     /// Refuses a launch, with the reason.
@@ -90,12 +92,13 @@ impl<R: Read, O: Write> Connection<R, O> {
     pub fn refuse_launch(&mut self, launch: &LaunchMessage, text: &str) -> Result<(), Ended>
         ensures { OnOk result (Refuses O.contents (head_in launch.now) text.now self.old self.new) }
     {
-        self.refuse(launch.head(), text)
+        self.refuse(launch.head(), text)?;
+        Ok(())
     }
 
     /// Answers a message before a launch, unless it launches.
-    fn answer_before(&mut self, message: &Value) -> Result<Before, Ended>
-        ensures told { OnOk result (HearsBefore O.contents (head_of (view message.now)) (view message.now) self.old self.new) }
+    fn answer_before(&mut self, message: &Value) -> Result<Before, SendFault>
+        ensures told { IfOk result (λ turn. HearsBefore O.contents turn (head_of (view message.now)) (view message.now) self.old self.new) }
         ensures launches { IfOk result (λ before. before ≡ Launches → IsLaunching (view message.now) × (self.new ≡ self.old)) }
         ensures messages { messages_of self.new ≡ messages_of self.old }
     {
@@ -118,7 +121,8 @@ impl<R: Read, O: Write> Connection<R, O> {
         &mut self,
         head: Head<'_>,
         request: &Request<'_>,
-    ) -> Result<Before, Ended>
+    ) -> Result<Before, SendFault>
+        ensures turn { IfOk result (λ turn. turn ≡ turn_before request.now) }
         ensures told { OnOk result (TellsBefore O.contents (head.entry.number, head.entry.command.now) request.now self.old self.new) }
         ensures launches { IfOk result (λ before. before ≡ Launches → (launch : Launch) × (request.now ≡ variant.Launch launch) × (self.new ≡ self.old)) }
         ensures messages { messages_of self.new ≡ messages_of self.old }

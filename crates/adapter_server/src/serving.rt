@@ -1,5 +1,5 @@
 //! The requests for a program that is launched.
-ghost use Rattle.std.specs.Prelude.{◌≡◌, IfOk, OnOk, codes};
+ghost use Rattle.std.specs.Prelude.{◌≡◌, IfErr, IfOk, OnOk, codes};
 ghost use Rattle.serde_json.specs.View.{view};
 ghost use Rattle.gang_model.specs.Debugger.Debugger.{Debugger, Setting};
 ghost use Rattle.debug_session.specs.Sessions.{StandsFor};
@@ -7,13 +7,15 @@ ghost use Rattle.adapter_requests.specs.declared.request.Request.TheVariants.{Co
 ghost use Rattle.adapter_session.specs.Done.{DoesRequest};
 ghost use Rattle.adapter_session.specs.Terms.{terms_of};
 ghost use Rattle.adapter_server.specs.Events.{events_at_beginning, events_behind, events_on_entry};
-ghost use Rattle.adapter_server.specs.Hearing.{Hears, HearsAll, HearsLaunch, HearsRestart, Refuses};
+ghost use Rattle.adapter_server.specs.Ending as spec;
+ghost use Rattle.adapter_server.specs.Ending.{IsEndOf};
+ghost use Rattle.adapter_server.specs.Hearing.{Hears, HearsLaunch, HearsRestart, HearsUntil, Refuses};
 ghost use Rattle.adapter_server.specs.Sending.{Sends};
 ghost use Rattle.adapter_server.specs.Serving.{Answers, Asks, Begins, DoesOne, Follows, HasBegun, MayDo, Serves, ServesAnew, messages_of, run_of, setup_by, setup_of, unread};
 ghost use Rattle.adapter_server.specs.Telling.{Tells, TellsBeginning, TellsOne};
 ghost use Rattle.adapter_server.specs.Threads.{threads_of};
 
-use crate::connection::{Connection, Ended};
+use crate::connection::{Connection, Ended, SendFault};
 use crate::events::{Told, events_at_beginning, events_behind, events_on_entry};
 use crate::files::FileFinder;
 use crate::launching::LaunchMessage;
@@ -40,14 +42,6 @@ pub enum Served {
     Disconnected,
 }
 
-/// What a request led to.
-#[derive(Clone, Copy, Debug, PartialEq, Eq)]
-enum Turn {
-    Goes,
-    Restarts,
-    Disconnects,
-}
-
 impl<R: Read, O: Write> Connection<R, O> {
     /// Answers a launch whose program a session runs, and every request until the editor disconnects or restarts it.
     ///
@@ -64,8 +58,9 @@ impl<R: Read, O: Write> Connection<R, O> {
     ) -> Result<Served, Ended>
         ensures done { Serves M.stands (F.leads files.now) (setup_of launch.now) (unread R.remaining self.old) (unread R.remaining self.new)
             (run_of session.old terms.old) (run_of session.new terms.new) }
-        ensures told { OnOk result (HearsLaunch M.stands (F.leads files.now) R.remaining O.contents launch.now (setup_of launch.now) self.old self.new
+        ensures told { IfOk result (λ served. HearsLaunch M.stands (F.leads files.now) R.remaining O.contents launch.now (setup_of launch.now) served self.old self.new
             (run_of session.old terms.old) (run_of session.new terms.new)) }
+        ensures ends { IfErr result (IsEndOf R.remaining self.new) }
     {
         self.reply(launch.head(), "", &Reply::Done)?;
         self.tell("initialized")?;
@@ -88,8 +83,9 @@ impl<R: Read, O: Write> Connection<R, O> {
     ) -> Result<Served, Ended>
         ensures done { ServesAnew M.stands (F.leads files.now) (setup_of launch.now) (unread R.remaining self.old) (unread R.remaining self.new) old.now
             (run_of session.old terms.old) (run_of session.new terms.new) }
-        ensures told { OnOk result (HearsRestart M.stands (F.leads files.now) R.remaining O.contents (setup_of launch.now) old.now self.old self.new
+        ensures told { IfOk result (λ served. HearsRestart M.stands (F.leads files.now) R.remaining O.contents (setup_of launch.now) old.now served self.old self.new
             (run_of session.old terms.old) (run_of session.new terms.new)) }
+        ensures ends { IfErr result (IsEndOf R.remaining self.new) }
     {
         restore_stops(old, terms, session);
         self.opened.clear();
@@ -109,7 +105,8 @@ impl<R: Read, O: Write> Connection<R, O> {
     pub fn refuse_restart(&mut self, text: &str) -> Result<(), Ended>
         ensures { OnOk result (Refuses O.contents (self.old.restart, codes "restart") text.now self.old self.new) }
     {
-        self.refuse(self.restarting(), text)
+        self.refuse(self.restarting(), text)?;
+        Ok(())
     }
 
     /// The request to restart that is not answered yet.
@@ -138,24 +135,23 @@ impl<R: Read, O: Write> Connection<R, O> {
     ) -> Result<Served, Ended>
         ensures done { Serves M.stands (F.leads files.now) (setup_of launch.now) (unread R.remaining self.old) (unread R.remaining self.new)
             (run_of session.old terms.old) (run_of session.new terms.new) }
-        ensures told { OnOk result (HearsAll M.stands (F.leads files.now) R.remaining O.contents (setup_of launch.now) self.old self.new
+        ensures told { IfOk result (λ served. HearsUntil M.stands (F.leads files.now) R.remaining O.contents (setup_of launch.now) served self.old self.new
             (run_of session.old terms.old) (run_of session.new terms.new)) }
+        ensures ends { IfErr result (IsEndOf R.remaining self.new) }
     {
         let Some(asked) = launch.launch() else {
             return Err(Ended::Memory);
         };
         for _ in 0..u64::MAX {
             let message = self.next_value()?;
-            match self.answer(&asked, terms, session, &message, files)? {
-                Turn::Goes => {}
-                Turn::Restarts => return Ok(Served::Restarts),
-                Turn::Disconnects => return Ok(Served::Disconnected),
+            if let Some(served) = self.answer(&asked, terms, session, &message, files)? {
+                return Ok(served);
             }
         }
-        Err(Ended::EndOfInput)
+        Err(Ended::ReadFault)
     }
 
-    /// Answers a message.
+    /// Answers a message, and says what serving ends by behind it, where it ends.
     #[tactic(auto, using(crate::proofs::ServedRequests::answers_nothing, crate::proofs::ServedRequests::answers_following))]
     fn answer<M: LaneMachine, F: FileFinder>(
         &mut self,
@@ -164,28 +160,28 @@ impl<R: Read, O: Write> Connection<R, O> {
         session: &mut Session<M>,
         message: &Value,
         files: &F,
-    ) -> Result<Turn, Ended>
+    ) -> Result<Option<Served>, SendFault>
         ensures done { Answers M.stands (F.leads files.now) (setup_by launch.now) (view message.now) (run_of session.old terms.old) (run_of session.new terms.new) }
-        ensures told { OnOk result (Hears M.stands (F.leads files.now) O.contents (setup_by launch.now) (view message.now) self.old self.new
+        ensures told { IfOk result (λ end. Hears M.stands (F.leads files.now) O.contents (setup_by launch.now) end (view message.now) self.old self.new
             (run_of session.old terms.old) (run_of session.new terms.new)) }
         ensures messages { messages_of self.new ≡ messages_of self.old }
     {
         let Some(head) = read_head(message) else {
             self.tell_console("a message is refused: NoRequest\n")?;
-            return Ok(Turn::Goes);
+            return Ok(None);
         };
         match read_request(self.alloc, head.command, message) {
             Err(fault) => {
                 let text = format!(in self.alloc; "{fault}")?;
                 self.refuse(head, text.as_str())?;
-                Ok(Turn::Goes)
+                Ok(None)
             }
             Ok(request) => self.do_request(launch, terms, session, head, &request, files),
         }
     }
 
     /// Does a request, which knows the program by the path of its source where this is the program's, and answers it, and tells what came
-    /// of it; a restart is not answered.
+    /// of it; a restart is not answered. It says what serving ends by behind the request, where it ends.
     #[tactic(auto, using(crate::proofs::ServedRequests::follows_nothing, crate::proofs::ServedRequests::follows_asking))]
     fn do_request<M: LaneMachine, F: FileFinder>(
         &mut self,
@@ -195,7 +191,8 @@ impl<R: Read, O: Write> Connection<R, O> {
         head: Head<'_>,
         request: &Request<'_>,
         files: &F,
-    ) -> Result<Turn, Ended>
+    ) -> Result<Option<Served>, SendFault>
+        ensures end { IfOk result (λ end. end ≡ spec.end_behind request.now) }
         ensures done { Follows M.stands (F.leads files.now) (setup_by launch.now) request.now (run_of session.old terms.old) (run_of session.new terms.new) }
         ensures told { OnOk result (Tells M.stands (F.leads files.now) O.contents (setup_by launch.now) (head.entry.number, head.entry.command.now) request.now self.old self.new
             (run_of session.old terms.old) (run_of session.new terms.new)) }
@@ -203,7 +200,7 @@ impl<R: Read, O: Write> Connection<R, O> {
     {
         if let Request::Restart = request {
             self.restart = head.number;
-            return Ok(Turn::Restarts);
+            return Ok(Some(Served::Restarts));
         }
         let reply = told_aside(
             self.alloc,
@@ -215,7 +212,7 @@ impl<R: Read, O: Write> Connection<R, O> {
         )?;
         if let Some(reply) = reply {
             self.reply(head, launch.program, &reply)?;
-            return Ok(Turn::Goes);
+            return Ok(end_behind(request));
         }
         let path = path_for(self.alloc, files, launch.program, request)?;
         let answered = ask(self.alloc, path, terms, session, request)?;
@@ -225,10 +222,9 @@ impl<R: Read, O: Write> Connection<R, O> {
         match request {
             Request::ConfigurationDone => {
                 self.begin(launch, terms, session)?;
-                Ok(Turn::Goes)
+                Ok(None)
             }
-            Request::Disconnect => Ok(Turn::Disconnects),
-            _ => Ok(Turn::Goes),
+            _ => Ok(end_behind(request)),
         }
     }
 
@@ -239,7 +235,7 @@ impl<R: Read, O: Write> Connection<R, O> {
         session: &Session<M>,
         request: &Request<'_>,
         answered: &Answered,
-    ) -> Result<(), Ended>
+    ) -> Result<(), SendFault>
         ensures told { (s : Setting) (d : Debugger) → StandsFor M.stands session.now s d
             → OnOk result (Sends O.contents self.old self.new (events_behind (threads_of launch.now) self.old.hears_changes s d request.now self.old.stopped answered.now)) }
         ensures messages { messages_of self.new ≡ messages_of self.old }
@@ -259,7 +255,7 @@ impl<R: Read, O: Write> Connection<R, O> {
         launch: &Launch<'_>,
         terms: &mut Terms,
         session: &mut Session<M>,
-    ) -> Result<(), Ended>
+    ) -> Result<(), SendFault>
         ensures done { Begins M.stands (setup_by launch.now) (run_of session.old terms.old) (run_of session.new terms.new) }
         ensures begun { OnOk result (HasBegun M.stands (setup_by launch.now) (run_of session.old terms.old) (run_of session.new terms.new)) }
         ensures told { OnOk result (TellsBeginning M.stands O.contents (threads_of launch.now) launch.now.program.now launch.now.stops_on_entry self.old self.new
@@ -283,7 +279,7 @@ impl<R: Read, O: Write> Connection<R, O> {
         launch: &Launch<'_>,
         terms: &mut Terms,
         session: &mut Session<M>,
-    ) -> Result<(), Ended>
+    ) -> Result<(), SendFault>
         ensures done { MayDo M.stands launch.now.program.now Continue (run_of session.old terms.old) (run_of session.new terms.new) }
         ensures gone { OnOk result (DoesOne M.stands launch.now.program.now Continue (run_of session.old terms.old) (run_of session.new terms.new)) }
         ensures told { OnOk result (TellsOne M.stands O.contents (threads_of launch.now) launch.now.program.now Continue self.old self.new
@@ -305,7 +301,7 @@ impl<R: Read, O: Write> Connection<R, O> {
         &mut self,
         launch: &Launch<'_>,
         session: &Session<M>,
-    ) -> Result<(), Ended>
+    ) -> Result<(), SendFault>
         ensures told { (s : Setting) (d : Debugger) → StandsFor M.stands session.now s d
             → OnOk result (Sends O.contents self.old self.new (events_on_entry (threads_of launch.now) s d)) }
         ensures messages { messages_of self.new ≡ messages_of self.old }
@@ -320,13 +316,24 @@ impl<R: Read, O: Write> Connection<R, O> {
         launch: &Launch<'_>,
         session: &Session<M>,
         beginning: &Beginning,
-    ) -> Result<(), Ended>
+    ) -> Result<(), SendFault>
         ensures told { (s : Setting) (d : Debugger) → StandsFor M.stands session.now s d
             → OnOk result (Sends O.contents self.old self.new (events_at_beginning (threads_of launch.now) s d beginning.now)) }
         ensures messages { messages_of self.new ≡ messages_of self.old }
     {
         let events = events_at_beginning(self.alloc, launch, session, beginning)?;
         self.tell_events(events.as_slice())
+    }
+}
+
+/// What serving ends by behind a request, where it ends.
+fn end_behind(request: &Request<'_>) -> Option<Served>
+    ensures { result ≡ spec.end_behind request.now }
+{
+    match request {
+        Request::Restart => Some(Served::Restarts),
+        Request::Disconnect => Some(Served::Disconnected),
+        _ => None,
     }
 }
 

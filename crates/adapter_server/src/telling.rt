@@ -2,7 +2,7 @@
 ghost use Rattle.std.specs.Prelude.{◌≡◌, ◌∷◌, [], OnOk, map};
 ghost use Rattle.opened_texts.specs.Texts.{texts_of};
 
-use crate::connection::{Connection, Ended};
+use crate::connection::{Connection, SendFault};
 use crate::events::Event;
 use std::io::{Read, Write};
 
@@ -12,7 +12,7 @@ impl<R: Read, O: Write> Connection<R, O> {
     ghost use Rattle.adapter_server.specs.Serving.{messages_of};
 
     /// Sends events, one after another.
-    pub(crate) fn tell_events(&mut self, events: &[Event]) -> Result<(), Ended>
+    pub(crate) fn tell_events(&mut self, events: &[Event]) -> Result<(), SendFault>
         ensures sent { OnOk result (Sends O.contents self.old self.new (map event_view events.now)) }
         ensures messages { messages_of self.new ≡ messages_of self.old }
     {
@@ -23,7 +23,7 @@ impl<R: Read, O: Write> Connection<R, O> {
     }
 
     /// Sends an event.
-    fn tell_event(&mut self, event: &Event) -> Result<(), Ended>
+    fn tell_event(&mut self, event: &Event) -> Result<(), SendFault>
         ensures sent { OnOk result (SendsOne O.contents self.old self.new (event_data (event_view event.now))) }
         ensures stopped { OnOk result (self.new.stopped ≡ last_stop self.old.stopped (event_view event.now ∷ [])) }
         ensures opened { OnOk result (texts_of self.new.opened ≡ left_open (texts_of self.old.opened) (event_view event.now ∷ [])) }

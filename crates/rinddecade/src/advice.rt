@@ -30,6 +30,17 @@ pub(crate) fn advise(rt: &HostRuntime, refusal: &Refusal, program: &Program<'_>,
     put_explained(rt.alloc(), refusal, &mut page);
 }
 
+/// Writes to standard error how a source is debugged, where it is named in place of a verb.
+pub(crate) fn advise_verb(rt: &HostRuntime, words: &[&str]) {
+    let Some(word) = words.first().filter(|word| word.ends_with(".ispc")) else {
+        return;
+    };
+    let mut page = Page::new(StreamWriter::new(rt.stderr()));
+    page.put(b"to debug a program: rinddecade debug ");
+    page.put_masked(word.as_bytes());
+    page.put(b"\n");
+}
+
 /// Writes that no exported function has the name that was asked for, if one was, and which functions of a source a run may begin with.
 pub(crate) fn put_entries<O: AnswerWriter + Drop>(
     alloc: Global,

@@ -57,7 +57,7 @@ fn main(rt: HostRuntime) -> ExitCode {
         return refuse(&rt, &Refusal::Memory);
     };
     match read_verb(rt.alloc(), words.as_slice()) {
-        Err(fault) => refuse_arguments(&rt, &fault),
+        Err(fault) => refuse_arguments(&rt, words.as_slice(), &fault),
         Ok(verb) => do_verb(&rt, &verb),
     }
 }

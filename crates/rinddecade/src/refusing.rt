@@ -1,5 +1,5 @@
 //! Refusals, and what standard error is told of them.
-use crate::advice::advise;
+use crate::advice::{advise, advise_verb};
 use crate::wrong_values::wrong_value;
 use clap::error::{Error, ErrorKind};
 use debug_inputs::InputFault;
@@ -104,11 +104,15 @@ pub(crate) fn refuse_file(rt: &HostRuntime, what: &[u8], path: &str, reason: &[u
 }
 
 /// Prints a fault of the words, or the help that was asked for. Where standard output does not take the help, that is a write fault.
-pub(crate) fn refuse_arguments(rt: &HostRuntime, fault: &Error) -> ExitCode {
+pub(crate) fn refuse_arguments(rt: &HostRuntime, words: &[&str], fault: &Error) -> ExitCode {
     if fault.kind() == ErrorKind::OutOfMemory {
         return refuse(rt, &Refusal::Memory);
     }
-    match fault.print(rt) {
+    let printed = fault.print(rt);
+    if fault.kind() == ErrorKind::InvalidSubcommand {
+        advise_verb(rt, words);
+    }
+    match printed {
         Err(_) if !fault.use_stderr() => write_fault(rt),
         _ => ExitCode::from(fault.exit_code() as u8),
     }

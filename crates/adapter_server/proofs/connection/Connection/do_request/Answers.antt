@@ -55,34 +55,6 @@ returns-in_err-tell_of-clause-done g c =
 pub returns-in_err-tell_of-clause-messages : goal.returns-in_err-tell_of-clause-messages
 returns-in_err-tell_of-clause-messages g c = c.tell_of.ensures.messages ∙ c.reply-2.ensures.messages
 
-pub returns-in-Disconnect-clause-done : goal.returns-in-Disconnect-clause-done
-returns-in-Disconnect-clause-done g c =
-    follows_asking g.M.RecordedMachine.stands (g.F.FileFinder.leads c.args.files.now) (setup_by c.args.launch.now) c.args.request.now c.in_ok-path.path.now (run_of c.args.session.now c.args.terms.now) (run_of c.ask.new.session c.ask.new.terms) c.ask.result c.in_ok-path.ensures c.ask.ensures.asked
-
-pub returns-in-Disconnect-clause-told : goal.returns-in-Disconnect-clause-told
-returns-in-Disconnect-clause-told g c =
-    inr (inr (record {
-      replied = c.reply-2.new.self;
-      told = c.tell_of.new.self;
-      middle = run_of c.ask.new.session c.ask.new.terms;
-      path = c.in_ok-path.path.now;
-      is_path = c.in_ok-path.ensures;
-      one = record {
-        answered = c.in_ok-answered.answered;
-        does = c.in_ok-answered.ensures.done;
-        sends = sent_same g.M.RecordedMachine.stands g.O.Write.contents (threads_of c.args.launch.now) c.in_ok-path.path.now c.args.request.now c.reply-2.new.self c.tell_of.new.self
-            (run_of c.ask.new.session c.ask.new.terms) c.open_answer-told.result c.in_ok-answered.answered (λ s d. c.open_answer-told.ensures.events (threads_of c.args.launch.now) c.reply-2.new.self.hears_changes s d c.reply-2.new.self.stopped) c.in_ok-tell_of.ensures.told;
-      };
-      given = c.open_answer-told.result.reply;
-      opens = λ s d there. opens_same s (bare d) c.args.request.now c.in_ok-answered.answered.reply c.open_answer-told.result.reply (texts_of c.args.self.now.opened) (texts_of c.open_answer-told.new.texts) (texts_of c.reply-2.new.self.opened)
-          (ap texts_of c.reply-2.ensures.opened) (c.open_answer-told.ensures.reply s d there);
-      reply = replied_same g.O.Write.contents c.args.self.now c.reply-2.new.self c.open_answer-told.new.texts _ c.in_ok-reply-3.ensures.sent;
-      begins = inl (λ is. cc, refl, refl);
-    }))
-
-pub returns-in-Disconnect-clause-messages : goal.returns-in-Disconnect-clause-messages
-returns-in-Disconnect-clause-messages g c = c.tell_of.ensures.messages ∙ c.reply-2.ensures.messages
-
 pub returns-clause-done : goal.returns-clause-done
 returns-clause-done g c =
     follows_asking g.M.RecordedMachine.stands (g.F.FileFinder.leads c.args.files.now) (setup_by c.args.launch.now) c.args.request.now c.in_ok-path.path.now (run_of c.args.session.now c.args.terms.now) (run_of c.ask.new.session c.ask.new.terms) c.ask.result c.in_ok-path.ensures c.ask.ensures.asked

@@ -1,6 +1,7 @@
 use Rattle.adapter_frames.specs.Reading as frames
 use Rattle.adapter_frames.specs.Reading.{kept, reader_of}
 use Rattle.adapter_server.specs.Serving.{unread}
+use Rattle.adapter_server.proofs.Ends.{at_end_without}
 use Rattle.adapter_server.proofs.ReadMessages.{ended_at, failing, lets_more_go, told}
 use Rattle.adapter_server.proofs.SentEvents.{says_on, says_reading}
 use Rattle.adapter_server.proofs.connection.Connection.next_message.Goals as goal
@@ -28,3 +29,8 @@ loop-preserved g c =
 
 pub returns-in-Ok-Some-clause-said : goal.returns-in-Ok-Some-clause-said
 returns-in-Ok-Some-clause-said g c = says_reading g.O.Write.contents c.args.self.now c.loop.self c.next_message.new.self c.loop.invariant.1
+
+pub returns-in-Ok-None-clause-ends : goal.returns-in-Ok-None-clause-ends
+returns-in-Ok-None-clause-ends g c =
+    let messages = c.next_message.new.self in
+    at_end_without _ c.in-Ok-None.field-0 (kept messages) (g.R.Read.remaining (reader_of messages)) c.in-Ok-None.field-0-is c.in-Ok-None.ensures.end

@@ -2,11 +2,11 @@ use Rattle.std.proofs.Common.{◌∙◌, [], ap, codes, inl, inr, refl, subst}
 use Rattle.adapter_frames.specs.Reading as frames
 use Rattle.adapter_requests.specs.declared.reply.Reply.TheVariants.{Done}
 use Rattle.opened_texts.specs.Texts.{texts_of}
-use Rattle.adapter_server.specs.Hearing.{HearsAll, HearsRestart}
+use Rattle.adapter_server.specs.Hearing.{HearsRestart, HearsUntil}
 use Rattle.adapter_server.specs.Serving.{Begins, Serves, messages_of, run_of, setup_of, unread}
 use Rattle.adapter_server.specs.Telling.{TellsBeginning}
 use Rattle.adapter_server.proofs.ReadMessages.{lets_nothing_go, serves_nothing, told}
-use Rattle.adapter_server.proofs.ServedRequests.{on_ok_then}
+use Rattle.adapter_server.proofs.ServedRequests.{if_ok_then}
 use Rattle.adapter_server.proofs.ToldEvents.{replied_by, replied_same}
 use Rattle.adapter_server.proofs.connection.Connection.restart.Goals as goal
 
@@ -74,9 +74,9 @@ returns-clause-told g c =
     let begun = run_of c.begin.new.session c.begin.new.terms in
     let old = run_of c.args.session.now c.args.terms.now in
     let new = run_of c.go_on.new.session c.go_on.new.terms in
-    on_ok_then c.go_on.result (HearsAll stands leads left contents setup c.begin.new.self c.go_on.new.self begun new)
-    (HearsRestart stands leads left contents setup c.args.old.now c.args.self.now c.go_on.new.self old new) c.go_on.ensures.told
-    (λ hears. record {
+    if_ok_then c.go_on.result (λ served. HearsUntil stands leads left contents setup served c.begin.new.self c.go_on.new.self begun new)
+    (λ served. HearsRestart stands leads left contents setup c.args.old.now served c.args.self.now c.go_on.new.self old new) c.go_on.ensures.told
+    (λ served hears. record {
       replied = c.reply.new.self;
       told = c.begin.new.self;
       restored = made;

@@ -1,9 +1,9 @@
 use Rattle.std.proofs.Common.{◌∙◌, [], subst}
 use Rattle.adapter_frames.specs.Reading as frames
 use Rattle.adapter_requests.specs.declared.reply.Reply.TheVariants.{Done}
-use Rattle.adapter_server.specs.Hearing.{HearsAll, HearsLaunch, head_in}
+use Rattle.adapter_server.specs.Hearing.{HearsLaunch, HearsUntil, head_in}
 use Rattle.adapter_server.specs.Serving.{Serves, run_of, setup_of, unread}
-use Rattle.adapter_server.proofs.ServedRequests.{on_ok_then}
+use Rattle.adapter_server.proofs.ServedRequests.{if_ok_then}
 use Rattle.adapter_server.proofs.ToldEvents.{replied_by}
 use Rattle.adapter_server.proofs.connection.Connection.serve.Goals as goal
 
@@ -22,9 +22,9 @@ returns-clause-told g c =
     let launch = c.args.launch.now in
     let old = run_of c.args.session.now c.args.terms.now in
     let new = run_of c.go_on.new.session c.go_on.new.terms in
-    on_ok_then c.go_on.result (HearsAll stands leads left contents (setup_of launch) c.tell.new.self c.go_on.new.self old new)
-    (HearsLaunch stands leads left contents launch (setup_of launch) c.args.self.now c.go_on.new.self old new) c.go_on.ensures.told
-    (λ hears. record {
+    if_ok_then c.go_on.result (λ served. HearsUntil stands leads left contents (setup_of launch) served c.tell.new.self c.go_on.new.self old new)
+    (λ served. HearsLaunch stands leads left contents launch (setup_of launch) served c.args.self.now c.go_on.new.self old new) c.go_on.ensures.told
+    (λ served hears. record {
       replied = c.reply.new.self;
       initialized = c.tell.new.self;
       reply = replied_by contents c.args.self.now c.reply.new.self [] Done _ _ (head_in launch) c.head.ensures.number c.head.ensures.command c.in_ok-reply.ensures.sent;
